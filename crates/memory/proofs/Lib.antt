@@ -1,0 +1,3 @@
+mod Packing
+mod Caching
+mod Copying
