@@ -1,0 +1,7 @@
+mod Cells
+mod Cutting
+mod Columns
+mod Holding
+mod Turning
+mod Reading
+mod Playing

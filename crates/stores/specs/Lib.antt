@@ -1,0 +1,9 @@
+pub mod Turns
+pub mod Refusals
+pub mod Cuts
+pub mod Versions
+pub mod Plain
+pub mod Book
+pub mod Sequential
+pub mod Runs
+pub mod Played

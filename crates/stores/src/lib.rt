@@ -1,0 +1,18 @@
+// Version stores: what one means (specs/Plain.antt, and the trait in `store`), that its reading is sequential
+// (specs/Sequential.antt, on the contracts in `play`), and the stores themselves.
+mod play;
+mod refusal;
+mod store;
+mod turn;
+
+pub use play::AnswersFull;
+pub use play::play_turn;
+pub use play::play_turns;
+pub use play::worked_runs_hold;
+pub use refusal::Answer;
+pub use refusal::Refusal;
+pub use refusal::RefusalDebug;
+pub use refusal::RefusalDisplay;
+pub use refusal::RefusalPartialEq;
+pub use store::VersionStore;
+pub use turn::Turn;
