@@ -8,7 +8,8 @@ use native.Mathlib.Omega.{arith}
 use lib.Dec.{eqb}
 use Rattle.std.proofs.shelf.Tests.{cases-eq, eq-eqb, ne-eqb, eqb-true, eqb-false, cond-true, cond-false, or-parts, true≢false, both-ways}
 use Rattle.std.proofs.shelf.Ways.{tells}
-use Rattle.stores.specs.Versions.{Version, noVersion, isOwn, withLoad, withStore, laidOver}
+use Rattle.stores.specs.declared.version.Version.{Version}
+use Rattle.stores.specs.Versions.{noVersion, isOwn, withLoad, withStore, laidOver}
 use Rattle.stores.specs.Book.{Access, loaded, stored, replaced, leaves, afterRun, storesTo, replaces, replacedStores}
 
 -- every load of a got the word that stood there

@@ -12,7 +12,8 @@ use Rattle.std.proofs.shelf.Lists.{length-append, length-map, append-assoc}
 use Rattle.std.proofs.shelf.Tests.{or-parts, and-parts, eqb-true, eq-eqb, true≢false, cond-true, cond-false, not-true, or-from}
 use Rattle.std.proofs.shelf.Ways.{tells}
 use Rattle.stores.specs.Cuts.{butLast}
-use Rattle.stores.specs.Versions.{Version, noVersion, isOwn, withLoad, withStore, laidOver, seenBy, squashedBy}
+use Rattle.stores.specs.declared.version.Version.{Version}
+use Rattle.stores.specs.Versions.{noVersion, isOwn, withLoad, withStore, laidOver, seenBy, squashedBy}
 use Rattle.stores.specs.Plain.{Task, fresh, changedAt, column}
 use Rattle.stores.specs.Book.{Access, loaded, stored, replaced, Entry, withAccess, allAccesses, afterRun, storesTo, replaces, replacedStores}
 use Rattle.stores.specs.Sequential.{WouldRead, ExactSquash}

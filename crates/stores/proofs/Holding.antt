@@ -15,7 +15,8 @@ use Rattle.std.proofs.shelf.Counted.{length-map-counting, getD-map-counting}
 use Rattle.std.proofs.shelf.Lists.{append-assoc, append-nil, take-append-drop, length-set, getD-set-same, getD-set-other}
 use Rattle.std.proofs.shelf.Tests.{cases-eq, eqb-true, eqb-false, eq-eqb, ne-eqb, cond-true, cond-false, or-from}
 use Rattle.stores.specs.Cuts.{butLast}
-use Rattle.stores.specs.Versions.{Version, laidOver, seenBy}
+use Rattle.stores.specs.declared.version.Version.{Version}
+use Rattle.stores.specs.Versions.{laidOver, seenBy}
 use Rattle.stores.specs.Plain.{laidOverAll, writtenTo}
 use Rattle.stores.specs.Book.{Access, loaded, stored, replaced, Entry, withAccess, asCommitted, allAccesses, firstAccesses, afterRun, replaces, replacedStores}
 use Rattle.stores.proofs.Cells.{AgreesAt, afterRun-++, agrees-join, agrees-left, agrees-right, agrees-any, exposes, replaces-++, unreplaced, replaced-run, replacedStores-load, replacedStores-store, replacedStores-replace}

@@ -5,3 +5,4 @@ mod Holding
 mod Turning
 mod Reading
 mod Playing
+mod Ordering

@@ -10,7 +10,8 @@ use Rattle.std.proofs.shelf.Lists.{take-map, length-map, take-append-drop}
 use Rattle.std.proofs.shelf.Tests.{cond-true, cond-false}
 use Rattle.stores.specs.declared.turn.Turn.the-variants.{Store}
 use Rattle.stores.specs.Cuts.{past}
-use Rattle.stores.specs.Versions.{Version, seenBy}
+use Rattle.stores.specs.declared.version.Version.{Version}
+use Rattle.stores.specs.Versions.{seenBy}
 use Rattle.stores.specs.Plain.{Task, Plain, opened, memoryWords, column, answerOf, stateAfter}
 use Rattle.stores.specs.Book.{Access, loaded, Entry, Book, isTaskOf, fedOne, allAccesses, committedOf, activeOf, firstAccesses, afterRun, replacedStores}
 use Rattle.stores.specs.Sequential.{Event, fedAll, bookOf, ExactSquash, Sequential, Leads, Mirrors, ReadsOn}

@@ -17,7 +17,8 @@ use Rattle.stores.specs.declared.refusal.Refusal.{Refusal}
 use Rattle.stores.specs.declared.turn.Turn.{Turn}
 use Rattle.stores.specs.declared.turn.Turn.the-variants.{Start, Load, Store, Squash, Commit, Replace}
 use Rattle.stores.specs.Cuts.{any, before, upTo, past, changed, butLast}
-use Rattle.stores.specs.Versions.{Version, noVersion, withLoad, withStore, seenBy, squashedBy}
+use Rattle.stores.specs.declared.version.Version.{Version}
+use Rattle.stores.specs.Versions.{noVersion, withLoad, withStore, seenBy, squashedBy}
 use Rattle.stores.specs.Plain.{Task, Plain, opened, fresh, isOn, changedAt, column, taskOn, isHead, laidOverAll, writtenTo, conditions, firstOf, refusalOf, given, moved, answerBy, unlessRefused, answerOf, stateAfter}
 use Rattle.stores.specs.Book.{Access, loaded, stored, replaced, Entry, Book, isTaskOf, withAccess, asCommitted, accepted, fedOne, allAccesses, afterRun}
 use Rattle.stores.specs.Sequential.{ExactSquash}

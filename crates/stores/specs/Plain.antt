@@ -15,7 +15,8 @@ use Rattle.stores.specs.declared.refusal.Refusal.the-variants.{NoProcessor, Ta
 use Rattle.stores.specs.declared.turn.Turn.{Turn}
 use Rattle.stores.specs.declared.turn.Turn.the-variants.{Start, Load, Store, Squash, Commit, Replace}
 use Rattle.stores.specs.Cuts.{any, before, upTo, past, changed, butLast, anyBelow}
-use Rattle.stores.specs.Versions.{Version, noVersion, isOwn, isHeld, withLoad, withStore, laidOver, seenBy, squashedBy}
+use Rattle.stores.specs.declared.version.Version.{Version}
+use Rattle.stores.specs.Versions.{noVersion, isOwn, isHeld, withLoad, withStore, laidOver, seenBy, squashedBy}
 
 -- a task: its processor, and its version at each address
 pub record Task : Type 0 where

@@ -7,11 +7,7 @@ use lib.ListN.{length}
 use Rattle.std.specs.Options.{isSome, valueOr}
 use Rattle.std.specs.declared.option.Option.{Option}
 use Rattle.std.specs.declared.option.Option.the-variants.{Some, None}
-
--- the mark says that the task has loaded here before it stored here; the own word is the one it stored last
-pub record Version : Type 0 where
-  pub mark : Bool
-  pub own : Option ℕ
+use Rattle.stores.specs.declared.version.Version.{Version}
 
 abbrev pub noVersion : Version
 noVersion = record { mark = false; own = None }
@@ -45,3 +41,12 @@ seenBy (v ∷ vs) w = seenBy vs (laidOver v w)
 abbrev pub squashedBy : List Version → ℕ
 squashedBy [] = 0
 squashedBy (v ∷ vs) = cond (v .mark) (suc (length vs)) (cond (isOwn v) 0 (squashedBy vs))
+
+-- the own word of the last of these tasks that has one
+abbrev pub orEarlier : Option ℕ → Option ℕ → Option ℕ
+orEarlier (Some w) earlier = Some w
+orEarlier None earlier = earlier
+
+abbrev pub nearestOwn : List Version → Option ℕ
+nearestOwn [] = None
+nearestOwn (v ∷ vs) = orEarlier (nearestOwn vs) (v .own)

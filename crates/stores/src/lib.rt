@@ -1,9 +1,11 @@
 // Version stores: what one means (specs/Plain.antt, and the trait in `store`), that its reading is sequential
 // (specs/Sequential.antt, on the contracts in `play`), and the stores themselves.
+mod order;
 mod play;
 mod refusal;
 mod store;
 mod turn;
+mod version;
 
 pub use play::AnswersFull;
 pub use play::play_turn;
@@ -16,3 +18,4 @@ pub use refusal::RefusalDisplay;
 pub use refusal::RefusalPartialEq;
 pub use store::VersionStore;
 pub use turn::Turn;
+pub use version::Version;
