@@ -6,3 +6,7 @@ mod Turning
 mod Reading
 mod Playing
 mod Ordering
+mod Tabling
+mod Fits
+mod Judging
+mod Classes

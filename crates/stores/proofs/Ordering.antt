@@ -14,7 +14,7 @@ use Rattle.std.proofs.shelf.Tests.{eq-eqb, ne-eqb, eqb-true, eqb-false, cond-tr
 use Rattle.std.proofs.shelf.Ways.{tells}
 use Rattle.stores.specs.Orders.{placeIn, Apart}
 
-none-some : {A : Type 0} (x : A) → Some x ≡ None → ⊥
+pub none-some : {A : Type 0} (x : A) → Some x ≡ None → ⊥
 none-some x e = let z : _≡_ {A = ℕ} 0 1 = cc in omega arith
 
 mapped-none : (o : Option ℕ) → mapped suc o ≡ None → o ≡ None
@@ -25,9 +25,9 @@ mapped-none (Some n) e = absurd (none-some (suc n) e)
 pub place-none : (q : ℕ) (qs : List ℕ) (p : ℕ) → placeIn (q ∷ qs) p ≡ None → (eqb q p ≡ false) × (placeIn qs p ≡ None)
 place-none q qs p e = go (eqb q p) e
   where
-  go : (t : Bool) → cond t (Some 0) (mapped suc (placeIn qs p)) ≡ None → (t ≡ false) × (placeIn qs p ≡ None)
-  go true e = absurd (none-some 0 e)
-  go false e = (refl, mapped-none (placeIn qs p) e)
+    go : (t : Bool) → cond t (Some 0) (mapped suc (placeIn qs p)) ≡ None → (t ≡ false) × (placeIn qs p ≡ None)
+    go true e = absurd (none-some 0 e)
+    go false e = (refl, mapped-none (placeIn qs p) e)
 
 pub place-none-cons : (q : ℕ) (qs : List ℕ) (p : ℕ) → eqb q p ≡ false → placeIn qs p ≡ None → placeIn (q ∷ qs) p ≡ None
 place-none-cons q qs p other none = rw (other, none)
@@ -121,6 +121,21 @@ room-for (a ∷ b ∷ c ∷ d ∷ []) p x l none h =
     let bc = place-none c (d ∷ []) b (x .2 .1) in
     let bd = place-none d [] b (bc .1) in
     let cd = place-none d [] c (x .2 .2 .1) in
-    absurd (omega (arith, differs a p (n1 .0), differs b p (n2 .0), differs c p (n3 .0), differs d p (n4 .0), differs b a (ab .0), differs c a (ac .0), differs d a (ad .0),
-      differs c b (bc .0), differs d b (bd .0), differs d c (cd .0), x .0, x .2 .0, x .2 .2 .0, x .2 .2 .2 .0))
+    absurd (omega (
+      arith,
+      differs a p (n1 .0),
+      differs b p (n2 .0),
+      differs c p (n3 .0),
+      differs d p (n4 .0),
+      differs b a (ab .0),
+      differs c a (ac .0),
+      differs d a (ad .0),
+      differs c b (bc .0),
+      differs d b (bd .0),
+      differs d c (cd .0),
+      x .0,
+      x .2 .0,
+      x .2 .2 .0,
+      x .2 .2 .2 .0,
+    ))
 room-for (a ∷ b ∷ c ∷ d ∷ e ∷ qs) p x l none h = absurd (omega arith)

@@ -102,7 +102,7 @@ active : (t : Bool) → not t ≡ false → t ≡ true
 active t e = not-false t e
 
 -- p's task of a list that has it
-taskOn-at : (p : ℕ) (pre : List Task) (t : Task) (post : List Task) → any (isOn p) pre ≡ false → isOn p t ≡ true → taskOn p (pre ++ t ∷ post) ≡ t
+pub taskOn-at : (p : ℕ) (pre : List Task) (t : Task) (post : List Task) → any (isOn p) pre ≡ false → isOn p t ≡ true → taskOn p (pre ++ t ∷ post) ≡ t
 taskOn-at p [] t post none here = rw here
 taskOn-at p (u ∷ pre) t post none here = let q = or-parts (isOn p u) (any (isOn p) pre) none in rw (q .0, taskOn-at p pre t post (q .1) here)
 

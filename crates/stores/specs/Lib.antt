@@ -4,6 +4,7 @@ pub mod Cuts
 pub mod Orders
 pub mod Versions
 pub mod Plain
+pub mod Tables
 pub mod Book
 pub mod Sequential
 pub mod Runs

@@ -18,7 +18,10 @@ impl Order {
         ensures order { λ r. ⌜ processors r ≡ [] ⌝ }
         ensures kept { λ r. ⌜ Ordered r ⌝ }
     {
-        Order { list: [0; 4], count: 0 }
+        Order {
+            list: [0; 4],
+            count: 0,
+        }
     }
 
     // How many tasks are active.

@@ -15,7 +15,10 @@ impl Version {
     pub fn none() -> Version
         ensures { λ r. ⌜ r ≡ noVersion ⌝ }
     {
-        Version { mark: false, own: None }
+        Version {
+            mark: false,
+            own: None,
+        }
     }
 
     // Whether the task holds the address.
@@ -29,13 +32,19 @@ impl Version {
     pub fn with_load(self) -> Version
         ensures { λ r. ⌜ r ≡ withLoad self ⌝ }
     {
-        Version { mark: self.mark || self.own.is_none(), own: self.own }
+        Version {
+            mark: self.mark || self.own.is_none(),
+            own: self.own,
+        }
     }
 
     // After a store of w. A mark stays.
     pub fn with_store(self, w: u32) -> Version
         ensures { λ r. ⌜ r ≡ withStore w self ⌝ }
     {
-        Version { mark: self.mark, own: Some(w) }
+        Version {
+            mark: self.mark,
+            own: Some(w),
+        }
     }
 }
