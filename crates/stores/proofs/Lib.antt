@@ -10,3 +10,5 @@ mod Tabling
 mod Fits
 mod Judging
 mod Classes
+mod Searching
+mod Buffering

@@ -5,6 +5,7 @@ pub mod Orders
 pub mod Versions
 pub mod Plain
 pub mod Tables
+pub mod Rows
 pub mod Book
 pub mod Sequential
 pub mod Runs

@@ -3,6 +3,7 @@
 mod order;
 mod play;
 mod refusal;
+mod rows;
 mod store;
 mod turn;
 mod version;
