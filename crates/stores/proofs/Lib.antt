@@ -12,3 +12,4 @@ mod Judging
 mod Classes
 mod Searching
 mod Buffering
+mod Stepping

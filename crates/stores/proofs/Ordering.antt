@@ -139,3 +139,9 @@ room-for (a ∷ b ∷ c ∷ d ∷ []) p x l none h =
       x .2 .2 .2 .0,
     ))
 room-for (a ∷ b ∷ c ∷ d ∷ e ∷ qs) p x l none h = absurd (omega arith)
+
+-- each of them is a processor
+pub apart-below : (qs : List ℕ) (k : ℕ) → Apart qs → k < length qs → getD qs k 0 < 4
+apart-below [] k a h = absurd (omega arith)
+apart-below (q ∷ qs) zero a h = a .0
+apart-below (q ∷ qs) (suc k) a h = apart-below qs k (a .2) (omega arith)

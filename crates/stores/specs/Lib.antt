@@ -6,6 +6,7 @@ pub mod Versions
 pub mod Plain
 pub mod Tables
 pub mod Rows
+pub mod Tasks
 pub mod Book
 pub mod Sequential
 pub mod Runs

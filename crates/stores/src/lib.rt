@@ -5,6 +5,7 @@ mod play;
 mod refusal;
 mod rows;
 mod store;
+mod tasks;
 mod turn;
 mod version;
 

@@ -44,7 +44,8 @@ impl Order {
     pub fn at(&self, k: usize) -> u32
         requires { ⌜ Ordered (now self) ⌝ }
         requires { ⌜ k < length (processors (now self)) ⌝ }
-        ensures { λ r. ⌜ r ≡ getD (processors (now (self .entry))) k 0 ⌝ }
+        ensures value { λ r. ⌜ r ≡ getD (processors (now (self .entry))) k 0 ⌝ }
+        ensures bound { λ r. ⌜ r < 4 ⌝ }
     {
         self.list[k]
     }
