@@ -114,7 +114,7 @@ anyBelow-find f (suc n) h = go (f n) refl h (λ k. anyBelow-find f n k)
   go true e h again = (n, omega arith, e)
   go false e h again = let x = again h in (x .0, omega (arith, x .1), x .2)
 
-anyBelow-never : (f : ℕ → Bool) (n : ℕ) → anyBelow f n ≡ false → (q : ℕ) → q < n → f q ≡ false
+pub anyBelow-never : (f : ℕ → Bool) (n : ℕ) → anyBelow f n ≡ false → (q : ℕ) → q < n → f q ≡ false
 anyBelow-never f zero h q l = absurd (omega arith)
 anyBelow-never f (suc n) h q l =
     let parts = or-parts (f n) (anyBelow f n) h in

@@ -18,7 +18,7 @@ use Rattle.stores.specs.Versions.{noVersion, isHeld}
 use Rattle.stores.specs.Plain.{Plain}
 use Rattle.stores.specs.Tables.{Table, emptyTable, taskBy, plainOf, withVersion, without, withoutAll, Fitting}
 use Rattle.stores.proofs.Ordering.{place-none, place-none-cons, none-some}
-use Rattle.stores.proofs.Tabling.{tasks-agree, none-past}
+use Rattle.stores.proofs.Tabling.{tasks-agree, none-past, place-take}
 
 pub fitting-empty : (n : ℕ) → Fitting n [] emptyTable
 fitting-empty n = record {
@@ -120,12 +120,24 @@ plain-without ws xs table (q ∷ qs) o =
 pub plain-cut : (ws ps : List ℕ) (table : Table) (m : ℕ) → Apart ps → plainOf ws (take m ps) (withoutAll table (drop m ps)) ≡ plainOf ws (take m ps) table
 plain-cut ws ps table m a = plain-without ws (take m ps) table (drop m ps) (parts-out m ps a)
 
+-- who is in the front is not in the rest
+out-of : (xs qs : List ℕ) (q j : ℕ) → AllOut xs qs → placeIn xs q ≡ Some j → placeIn qs q ≡ None
+out-of xs [] q j o e = refl
+out-of xs (r ∷ qs) q j o e =
+    place-none-cons r qs q (ne-eqb r q (λ s. none-some j (sym e ∙ subst (λ (y : ℕ). placeIn xs y ≡ None) s (o .0)))) (out-of xs qs q j (o .1) e)
+
+pub front-out : (m : ℕ) (ps : List ℕ) (q j : ℕ) → Apart ps → placeIn (take m ps) q ≡ Some j → placeIn (drop m ps) q ≡ None
+front-out m ps q j a e = out-of (take m ps) (drop m ps) q j (parts-out m ps a) e
+
+pub parts-none : (m : ℕ) (ps : List ℕ) (p k : ℕ) → Apart ps → placeIn ps p ≡ Some k → k < m → placeIn (drop m ps) p ≡ None
+parts-none m ps p k a e h = front-out m ps p k a (place-take m ps p k e h)
+
 none-join : (m : ℕ) (ps : List ℕ) (q : ℕ) → placeIn (take m ps) q ≡ None → placeIn (drop m ps) q ≡ None → placeIn ps q ≡ None
 none-join zero ps q e f = f
 none-join (suc m) [] q e f = refl
 none-join (suc m) (p ∷ ps) q e f = let n = place-none p (take m ps) q e in place-none-cons p ps q (n .0) (none-join m ps q (n .1) f)
 
-held-without : (table : Table) (qs : List ℕ) (q b : ℕ) → isHeld (withoutAll table qs q b) ≡ true → isHeld (table q b) ≡ true
+pub held-without : (table : Table) (qs : List ℕ) (q b : ℕ) → isHeld (withoutAll table qs q b) ≡ true → isHeld (table q b) ≡ true
 held-without table qs q b h = go (isSome (placeIn qs q)) (ap isHeld (sym (withoutAll-value table qs q b)) ∙ h)
   where
     go : (t : Bool) → isHeld (cond t noVersion (table q b)) ≡ true → isHeld (table q b) ≡ true

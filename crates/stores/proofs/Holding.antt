@@ -271,7 +271,7 @@ getD-writtenTo (Some w) a vs b h =
     (λ (ne : a ≢ b). getD-set-other vs a b w 0 (λ e. ne (sym e)) ∙ sym (cond-false (eqb a b) w (getD vs b 0) (ne-eqb a b ne)))
     (cases-eq a b)
 
-length-writtenTo : (o : Option ℕ) (a : ℕ) (vs : List ℕ) → length (writtenTo o a vs) ≡ length vs
+pub length-writtenTo : (o : Option ℕ) (a : ℕ) (vs : List ℕ) → length (writtenTo o a vs) ≡ length vs
 length-writtenTo None a vs = refl
 length-writtenTo (Some w) a vs = length-set vs a w
 

@@ -13,3 +13,4 @@ mod Classes
 mod Searching
 mod Buffering
 mod Stepping
+mod Serving

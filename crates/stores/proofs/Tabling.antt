@@ -123,6 +123,19 @@ tasks-agree other table (q ∷ ps) p none agree =
     let same : taskBy other q ≡ taskBy table q = ap (λ (f : ℕ → Version). record { on = q; at = f }) (fun-ext (λ b. agree q b (n .0))) in
     ap (λ (t : Task). t ∷ map (taskBy other) ps) same ∙ ap (λ (l : List Task). taskBy table q ∷ l) (tasks-agree other table ps p (n .1) agree)
 
+-- tables that agree on some processors make the same tasks of them
+pub tasks-same : (other table : Table) (ps : List ℕ) → ((q k : ℕ) → placeIn ps q ≡ Some k → (b : ℕ) → other q b ≡ table q b) → map (taskBy other) ps ≡ map (taskBy table) ps
+tasks-same other table [] agree = refl
+tasks-same other table (q ∷ ps) agree =
+    let first : placeIn (q ∷ ps) q ≡ Some 0 = cond-true (eqb q q) (Some 0) (mapped suc (placeIn ps q)) (eq-eqb q q refl) in
+    let same : taskBy other q ≡ taskBy table q = ap (λ (f : ℕ → Version). record { on = q; at = f }) (fun-ext (λ b. agree q 0 first b)) in
+    ap (λ (t : Task). t ∷ map (taskBy other) ps) same
+    ∙ ap (λ (l : List Task). taskBy table q ∷ l) (tasks-same other table ps (λ r k e b. later r k e b (eqb q r) refl))
+  where
+  later : (r k : ℕ) → placeIn ps r ≡ Some k → (b : ℕ) (t : Bool) → eqb q r ≡ t → other r b ≡ table r b
+  later r k e b true h = agree r 0 (cond-true (eqb q r) (Some 0) (mapped suc (placeIn ps r)) h) b
+  later r k e b false h = agree r (suc k) (cond-false (eqb q r) (Some 0) (mapped suc (placeIn ps r)) h ∙ ap (mapped suc) e) b
+
 withVersion-other : (table : Table) (p a : ℕ) (v : Version) (q b : ℕ) → eqb q p ≡ false → withVersion table p a v q b ≡ table q b
 withVersion-other table p a v q b e = rw e
 
@@ -145,7 +158,7 @@ changed-is table ps p k a f apart place =
     go b false h = rw (eq-eqb p p refl)
 
 -- a front of the processors still has p at its place
-place-take : (m : ℕ) (ps : List ℕ) (p k : ℕ) → placeIn ps p ≡ Some k → k < m → placeIn (take m ps) p ≡ Some k
+pub place-take : (m : ℕ) (ps : List ℕ) (p k : ℕ) → placeIn ps p ≡ Some k → k < m → placeIn (take m ps) p ≡ Some k
 place-take zero ps p k e h = absurd (omega arith)
 place-take (suc m) [] p k e h = e
 place-take (suc m) (q ∷ ps) p k e h = go (eqb q p) e (placeIn ps p) refl (λ j i l. place-take m ps p j i l)

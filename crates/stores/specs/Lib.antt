@@ -7,6 +7,7 @@ pub mod Plain
 pub mod Tables
 pub mod Rows
 pub mod Tasks
+pub mod Buffers
 pub mod Book
 pub mod Sequential
 pub mod Runs

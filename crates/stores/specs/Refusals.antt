@@ -1,5 +1,7 @@
 -- The number of each refusal of a turn.
 use Prim.Native.Nat.{ℕ}
+use Rattle.memory.specs.declared.error.MemoryError.{MemoryError}
+use Rattle.memory.specs.declared.error.MemoryError.the-variants.{Address, Size}
 use Rattle.stores.specs.declared.refusal.Refusal.{Refusal}
 use Rattle.stores.specs.declared.refusal.Refusal.the-variants.{NoProcessor, TaskActive, NoTask, NoAddress, ClassTaken, NotHead, IsHead, NotHeld}
 
@@ -12,3 +14,8 @@ refusalNumber ClassTaken = 5
 refusalNumber NotHead = 6
 refusalNumber IsHead = 7
 refusalNumber NotHeld = 8
+
+-- the refusal of a turn whose read or write the memory refused
+abbrev pub refusalBelow : MemoryError → Refusal
+refusalBelow Address = NoAddress
+refusalBelow Size = NoAddress

@@ -1,5 +1,6 @@
 // Version stores: what one means (specs/Plain.antt, and the trait in `store`), that its reading is sequential
 // (specs/Sequential.antt, on the contracts in `play`), and the stores themselves.
+mod buffer;
 mod order;
 mod play;
 mod refusal;
@@ -9,6 +10,7 @@ mod tasks;
 mod turn;
 mod version;
 
+pub use buffer::CentralBuffer;
 pub use play::AnswersFull;
 pub use play::play_turn;
 pub use play::play_turns;
@@ -17,6 +19,7 @@ pub use refusal::Answer;
 pub use refusal::Refusal;
 pub use refusal::RefusalDebug;
 pub use refusal::RefusalDisplay;
+pub use refusal::RefusalFromMemory;
 pub use refusal::RefusalPartialEq;
 pub use store::VersionStore;
 pub use turn::Turn;

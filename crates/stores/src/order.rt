@@ -27,7 +27,8 @@ impl Order {
     // How many tasks are active.
     pub fn len(&self) -> usize
         requires { ⌜ Ordered (now self) ⌝ }
-        ensures { λ r. ⌜ r ≡ length (processors (now (self .entry))) ⌝ }
+        ensures value { λ r. ⌜ r ≡ length (processors (now (self .entry))) ⌝ }
+        ensures bound { λ r. ⌜ r ≤ 4 ⌝ }
     {
         self.count
     }

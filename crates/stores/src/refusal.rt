@@ -1,6 +1,7 @@
 // The answer to a turn: a number, or a refusal.
 ghost use mathlib.Core.Path.{_≡_};
-ghost use Rattle.stores.specs.Refusals.{refusalNumber};
+ghost use Rattle.stores.specs.Refusals.{refusalNumber, refusalBelow};
+use memory::MemoryError;
 use std::fmt;
 
 #[derive(Clone, Copy, PartialEq, Debug)]
@@ -38,5 +39,17 @@ pub impl fmt::Display for Refusal as RefusalDisplay {
     fn fmt<W: fmt::Write>(&self, f: &mut fmt::Formatter<W>) -> fmt::Result {
         let number = self.number();
         write!(f, "no {number}")
+    }
+}
+
+// What the memory below refuses, a turn refuses: its reads and writes give no other refusal than that of the address.
+pub impl From<MemoryError> for Refusal as RefusalFromMemory {
+    ghost converts = { λ e r. r ≡ refusalBelow e };
+
+    fn from(e: MemoryError) -> Refusal {
+        match e {
+            MemoryError::Address => Refusal::NoAddress,
+            MemoryError::Size => Refusal::NoAddress,
+        }
     }
 }

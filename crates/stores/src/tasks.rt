@@ -33,7 +33,8 @@ impl Tasks {
     // How many tasks are active.
     pub fn len(&self) -> usize
         requires { ⌜ GoodTasks (now self) ⌝ }
-        ensures { λ r. ⌜ r ≡ length (processorsOf (now (self .entry))) ⌝ }
+        ensures value { λ r. ⌜ r ≡ length (processorsOf (now (self .entry))) ⌝ }
+        ensures bound { λ r. ⌜ r ≤ 4 ⌝ }
     {
         self.order.len()
     }

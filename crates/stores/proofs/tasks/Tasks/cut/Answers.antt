@@ -17,7 +17,7 @@ loop-i-again c =
     let t = c .args .self .now in
     (c .loop-i .inv .0,
     c .clear .ensures .kept,
-    cut-step (tableOf t) (tableOf (c .loop-i .self)) (tableIn (c .clear .last .self)) (processorsOf t) (c .args .k) (c .loop-i .i) (c .at-p .result) (omega arith) (omega (arith, c .len-n .ensures))
+    cut-step (tableOf t) (tableOf (c .loop-i .self)) (tableIn (c .clear .last .self)) (processorsOf t) (c .args .k) (c .loop-i .i) (c .at-p .result) (omega arith) (omega (arith, c .len-n .ensures .value))
     (c .at-p .ensures .value ∙ ap (λ (o : Order). getD (processors o) (c .loop-i .i) 0) (c .loop-i .inv .0)) (c .loop-i .inv .2) (c .clear .ensures .table))
 
 pub returns : need.returns
@@ -25,6 +25,6 @@ returns c =
     let t = c .args .self .now in
     record {
       order = c .cut .ensures .order ∙ ap (λ (o : Order). take (c .args .k) (processors o)) (c .loop-i .inv .0);
-      table = cut-all (tableOf t) (tableOf (c .loop-i .self)) (processorsOf t) (c .args .k) (c .loop-i .i) (omega (arith, c .len-n .ensures)) (c .loop-i .inv .2);
+      table = cut-all (tableOf t) (tableOf (c .loop-i .self)) (processorsOf t) (c .args .k) (c .loop-i .i) (omega (arith, c .len-n .ensures .value)) (c .loop-i .inv .2);
       kept = record { order = c .cut .ensures .kept; rows = c .loop-i .inv .1 };
     }

@@ -1,0 +1,114 @@
+// The central buffer: one store of versions for all four processors, over any memory. Every refusal is decided before
+// the first row or word changes.
+ghost use Prim.Native.Nat.{ℕ, _+_, _%_, _<_, _≤_};
+ghost use mathlib.Core.Bool.{Bool, true, cond};
+ghost use mathlib.Core.List.{List};
+ghost use mathlib.Core.Path.{_≡_};
+ghost use lib.ListN.{length, getD, take, drop};
+ghost use denote.Ref.{now};
+ghost use Rattle.memory.specs.Client.{countBelow};
+ghost use Rattle.std.specs.Options.{isSome};
+ghost use Rattle.std.specs.declared.option.Option.{Option};
+ghost use Rattle.std.specs.declared.result.Result.the-variants.{Ok};
+ghost use Rattle.stores.specs.declared.turn.Turn.the-variants.{Start, Load, Store, Squash, Commit, Replace};
+ghost use Rattle.stores.specs.Buffers.{plainIn, SoundBuffer};
+ghost use Rattle.stores.specs.Plain.{opened, laidOverAll, writtenTo, answerOf, stateAfter};
+ghost use Rattle.stores.specs.Tables.{activePlace, accessPlace, squashPlace, commitPlace, replacePlace};
+ghost use Rattle.stores.specs.Tasks.{processorsOf, tableOf, versionsAt, GoodTasks};
+ghost use Rattle.stores.specs.Versions.{isOwn, seenBy};
+use crate::refusal::Answer;
+use crate::refusal::Refusal;
+use crate::refusal::RefusalFromMemory;
+use crate::store::VersionStore;
+use crate::tasks::Tasks;
+use crate::turn::Turn;
+use crate::version::Version;
+use memory::Memory;
+
+pub struct CentralBuffer<M> {
+    memory: M,
+    tasks: Tasks,
+}
+
+impl<M: Memory> CentralBuffer<M> {
+    // A buffer over a memory that is open. No task is active.
+    pub fn open(memory: M) -> CentralBuffer<M>
+        requires { ⌜ M·Memory .sound memory ⌝ }
+        ensures plain { λ r. ⌜ plainIn (M·Memory .words) r ≡ opened (M·Memory .words memory) ⌝ }
+        ensures beside { λ r. ⌜ M·Memory .spare (r .memory) ≡ M·Memory .spare memory ⌝ }
+        ensures kept { λ r. ⌜ SoundBuffer (M·Memory .words) (M·Memory .sound) r ⌝ }
+    {
+        CentralBuffer { memory, tasks: Tasks::new() }
+    }
+
+    // The place of p's task, unless p is no processor or has no task.
+    fn active(&self, p: u32) -> Result<usize, Refusal>
+        requires { ⌜ GoodTasks (now self .tasks) ⌝ }
+        ensures { λ r. ⌜ r ≡ activePlace (processorsOf (now (self .entry) .tasks)) p ⌝ }
+    {
+        if p >= 4 {
+            return Err(Refusal::NoProcessor);
+        }
+        match self.tasks.place(p) {
+            Some(k) => Ok(k),
+            None => Err(Refusal::NoTask),
+        }
+    }
+
+    // The place of p's task, unless p may not load or store at a.
+    fn access(&self, p: u32, a: u32) -> Result<usize, Refusal>
+        requires { ⌜ SoundBuffer (M·Memory .words) (M·Memory .sound) (now self) ⌝ }
+        ensures { λ r. ⌜ r ≡ accessPlace (length (M·Memory .words (now (self .entry) .memory))) (processorsOf (now (self .entry) .tasks)) (tableOf (now (self .entry) .tasks)) p a ⌝ }
+    {
+        let k = self.active(p)?;
+        if a >= self.memory.size() {
+            return Err(Refusal::NoAddress);
+        }
+        if self.tasks.class_taken(p, a) {
+            return Err(Refusal::ClassTaken);
+        }
+        Ok(k)
+    }
+
+    // The place of p's task, unless p may not be squashed.
+    fn squashable(&self, p: u32) -> Result<usize, Refusal>
+        requires { ⌜ GoodTasks (now self .tasks) ⌝ }
+        ensures { λ r. ⌜ r ≡ squashPlace (processorsOf (now (self .entry) .tasks)) p ⌝ }
+    {
+        let k = self.active(p)?;
+        if k == 0 {
+            return Err(Refusal::IsHead);
+        }
+        Ok(k)
+    }
+
+    // The place of p's task, unless p may not commit.
+    fn committable(&self, p: u32) -> Result<usize, Refusal>
+        requires { ⌜ GoodTasks (now self .tasks) ⌝ }
+        ensures { λ r. ⌜ r ≡ commitPlace (processorsOf (now (self .entry) .tasks)) p ⌝ }
+    {
+        let k = self.active(p)?;
+        if k != 0 {
+            return Err(Refusal::NotHead);
+        }
+        Ok(k)
+    }
+
+    // The place of p's task, unless p may not replace a.
+    fn replaceable(&self, p: u32, a: u32) -> Result<usize, Refusal>
+        requires { ⌜ SoundBuffer (M·Memory .words) (M·Memory .sound) (now self) ⌝ }
+        ensures { λ r. ⌜ r ≡ replacePlace (length (M·Memory .words (now (self .entry) .memory))) (processorsOf (now (self .entry) .tasks)) (tableOf (now (self .entry) .tasks)) p a ⌝ }
+    {
+        let k = self.active(p)?;
+        if a >= self.memory.size() {
+            return Err(Refusal::NoAddress);
+        }
+        if k != 0 {
+            return Err(Refusal::NotHead);
+        }
+        if !self.tasks.version(p, a).is_held() {
+            return Err(Refusal::NotHeld);
+        }
+        Ok(k)
+    }
+}
