@@ -7,16 +7,19 @@ use mathlib.Core.Logic.{⊎-elim}
 use mathlib.Core.Path.{_≡_, refl, sym, ap, subst, fun-ext, _∙_}
 use native.Mathlib.Numerals.{add-one}
 use native.Mathlib.Omega.{arith}
-use lib.Dec.{eqb, leb}
+use lib.Dec.{eqb, leb, ltb}
 use lib.ListN.{length, getD, take, drop}
 use Rattle.memory.specs.Client.{countBelow}
+use Rattle.memory.specs.Words.{readAnswer}
+use Rattle.memory.specs.declared.error.MemoryError.{MemoryError}
+use Rattle.memory.specs.declared.error.MemoryError.the-variants.{Address}
 use Rattle.std.specs.Options.{isSome, mapped}
 use Rattle.std.specs.declared.option.Option.{Option}
 use Rattle.std.specs.declared.option.Option.the-variants.{Some, None}
 use Rattle.std.specs.declared.result.Result.{Result}
 use Rattle.std.specs.declared.result.Result.the-variants.{Ok, Err}
 use Rattle.std.proofs.shelf.Lists.{length-take-le}
-use Rattle.std.proofs.shelf.Tests.{eq-eqb, ne-eqb, eqb-true, eqb-false, cases-eq, cond-true, cond-false, lt-leb, le-leb, leb-true, leb-false, true≢false, and-from}
+use Rattle.std.proofs.shelf.Tests.{eq-eqb, ne-eqb, eqb-true, eqb-false, cases-eq, cond-true, cond-false, lt-leb, le-leb, lt-ltb, leb-true, leb-false, true≢false, and-from}
 use Rattle.std.proofs.shelf.Ways.{tells}
 use Rattle.stores.specs.declared.refusal.Refusal.{Refusal}
 use Rattle.stores.specs.declared.refusal.Refusal.the-variants.{NoProcessor, TaskActive}
@@ -24,10 +27,11 @@ use Rattle.stores.specs.declared.turn.Turn.{Turn}
 use Rattle.stores.specs.declared.turn.Turn.the-variants.{Start, Load, Store, Squash, Commit, Replace}
 use Rattle.stores.specs.declared.version.Version.{Version}
 use Rattle.stores.specs.Cuts.{anyBelow}
-use Rattle.stores.specs.Orders.{placeIn, Apart}
+use Rattle.stores.specs.declared.order.Order.{Order}
+use Rattle.stores.specs.Orders.{placeIn, Apart, processors, Ordered}
 use Rattle.stores.specs.Plain.{Task, Plain, holdsClass, laidOverAll, writtenTo, refusalOf, given, moved, answerOf, stateAfter}
 use Rattle.stores.specs.Tables.{Table, taskBy, plainOf, withVersion, without, withoutAll, Fitting, accessPlace, squashPlace, commitPlace, replacePlace}
-use Rattle.stores.specs.Versions.{noVersion, isOwn, isHeld, withLoad, withStore, seenBy}
+use Rattle.stores.specs.Versions.{noVersion, isOwn, isHeld, withLoad, withStore, seenBy, squashedBy}
 use Rattle.stores.proofs.Buffering.{anyBelow-never}
 use Rattle.stores.proofs.Fits.{fitting-start, fitting-put, fitting-cut, fitting-retire, plain-cut, plain-retire, withoutAll-value, held-without, parts-none, front-out}
 use Rattle.stores.proofs.Holding.{length-laidOverAll, length-writtenTo}
@@ -190,3 +194,37 @@ module _ (ws ps : List ℕ) (table : Table) (apart : Apart ps) (x : Fitting (len
     front-kept : (q j m : ℕ) → placeIn (take m ps) q ≡ Some j → (b : ℕ) → withoutAll table (drop m ps) q b ≡ table q b
     front-kept q j m inside b =
       withoutAll-value table (drop m ps) q b ∙ ap (λ (o : Option ℕ). cond (isSome o) noVersion (table q b)) (front-out m ps q j apart inside)
+
+pub none-from : (o : Option ℕ) → isSome o ≡ false → o ≡ None
+none-from None e = refl
+none-from (Some k) e = absurd (true≢false e)
+
+pub ok-value : (w v : ℕ) → _≡_ {A = Result ℕ Refusal} (Ok w) (Ok v) → w ≡ v
+ok-value w v e = cc
+
+-- a load, as the buffer serves it: from the tasks t to the tasks u, with the version v put
+pub load-version : (table now : Table) (p a : ℕ) (v loaded : Version) (later : Table) → now ≡ table → v ≡ now p a → loaded ≡ withLoad v → later ≡ withVersion now p a loaded
+    → later ≡ withVersion table p a (withLoad (table p a))
+load-version table now p a v loaded later same v-is loaded-is later-is =
+    later-is
+    ∙ (ap (withVersion now p a) (loaded-is ∙ ap withLoad v-is)
+    ∙ ap (λ (t : Table). withVersion t p a (withLoad (t p a))) same)
+
+pub store-version : (table : Table) (p a w : ℕ) (v stored : Version) (later : Table) → v ≡ table p a → stored ≡ withStore w v → later ≡ withVersion table p a stored
+    → later ≡ withVersion table p a (withStore w (table p a))
+store-version table p a w v stored later v-is stored-is later-is = later-is ∙ ap (withVersion table p a) (stored-is ∙ ap (withStore w) v-is)
+
+
+-- a read of the memory inside its size gives the word
+pub read-inside : (ws : List ℕ) (a w : ℕ) → a < length ws → Ok w ≡ readAnswer ws a → w ≡ getD ws a 0
+read-inside ws a w h e =
+    let f : _≡_ {A = Result ℕ MemoryError} (Ok w) (Ok (getD ws a 0)) = e ∙ cond-true (ltb a (length ws)) (Ok (getD ws a 0)) (Err Address) (lt-ltb a (length ws) h) in
+    cc
+
+-- how many tasks a store squashes, where the code counts from the place after p's
+pub hit-is : (table : Table) (ps : List ℕ) (k a n : ℕ) → n ≡ squashedBy (map (λ q. table q a) (drop (k + 1) ps)) → n ≡ squashes table ps k a
+hit-is table ps k a n e = e ∙ ap (λ (j : ℕ). squashedBy (map (λ q. table q a) (drop j ps))) (add-one k)
+
+-- there are at most four
+pub few : (o : Order) → Ordered o → length (processors o) ≤ 4
+few o x = omega (arith, length-take-le (o .count) (o .list) (omega (arith, x .room, x .few)), x .few)

@@ -111,4 +111,121 @@ impl<M: Memory> CentralBuffer<M> {
         }
         Ok(k)
     }
+
+    // The word at a that the task at place k sees.
+    fn seen(&mut self, k: usize, a: u32) -> Result<u32, Refusal>
+        requires { ⌜ SoundBuffer (M·Memory .words) (M·Memory .sound) (now self) ⌝ }
+        requires { ⌜ k < length (processorsOf (now self .tasks)) ⌝ }
+        requires { ⌜ a < length (M·Memory .words (now self .memory)) ⌝ }
+        ensures answer { λ r. ⌜ r ≡ Ok (seenBy (versionsAt (now (self .entry) .tasks) a (take (k + 1) (processorsOf (now (self .entry) .tasks)))) (getD (M·Memory .words (now (self .entry) .memory)) a 0)) ⌝ }
+        ensures words { λ _. ⌜ M·Memory .words (now (self .exit) .memory) ≡ M·Memory .words (now (self .entry) .memory) ⌝ }
+        ensures tasks { λ _. ⌜ now (self .exit) .tasks ≡ now (self .entry) .tasks ⌝ }
+        ensures beside { λ _. ⌜ M·Memory .spare (now (self .exit) .memory) ≡ M·Memory .spare (now (self .entry) .memory) ⌝ }
+        ensures kept { λ _. ⌜ M·Memory .sound (now (self .exit) .memory) ⌝ }
+    {
+        match self.tasks.nearest(k + 1, a) {
+            Some(w) => Ok(w),
+            None => Ok(self.memory.read(a)?),
+        }
+    }
+
+    // Writes an own word of address a to memory, if there is one, and gives how many it wrote.
+    fn write_own(&mut self, a: u32, own: Option<u32>) -> u32
+        requires { ⌜ M·Memory .sound (now self .memory) ⌝ }
+        requires { ⌜ a < length (M·Memory .words (now self .memory)) ⌝ }
+        ensures count { λ r. ⌜ r ≡ cond (isSome own) 1 0 ⌝ }
+        ensures words { λ _. ⌜ M·Memory .words (now (self .exit) .memory) ≡ writtenTo own a (M·Memory .words (now (self .entry) .memory)) ⌝ }
+        ensures tasks { λ _. ⌜ now (self .exit) .tasks ≡ now (self .entry) .tasks ⌝ }
+        ensures beside { λ _. ⌜ M·Memory .spare (now (self .exit) .memory) ≡ M·Memory .spare (now (self .entry) .memory) ⌝ }
+        ensures kept { λ _. ⌜ M·Memory .sound (now (self .exit) .memory) ⌝ }
+    {
+        match own {
+            // Never refused: a is an address of the memory.
+            Some(w) => {
+                let _ = self.memory.write(a, w);
+                1
+            }
+            None => 0,
+        }
+    }
+
+    // Starts a task.
+    fn begin(&mut self, p: u32) -> Answer
+        requires { ⌜ SoundBuffer (M·Memory .words) (M·Memory .sound) (now self) ⌝ }
+        ensures answer { λ r. ⌜ r ≡ answerOf (plainIn (M·Memory .words) (now (self .entry))) (Start p) ⌝ }
+        ensures after { λ _. ⌜ plainIn (M·Memory .words) (now (self .exit)) ≡ stateAfter (plainIn (M·Memory .words) (now (self .entry))) (Start p) ⌝ }
+        ensures beside { λ _. ⌜ M·Memory .spare (now (self .exit) .memory) ≡ M·Memory .spare (now (self .entry) .memory) ⌝ }
+        ensures kept { λ _. ⌜ SoundBuffer (M·Memory .words) (M·Memory .sound) (now (self .exit)) ⌝ }
+    {
+        if p >= 4 {
+            return Err(Refusal::NoProcessor);
+        }
+        if self.tasks.place(p).is_some() {
+            return Err(Refusal::TaskActive);
+        }
+        let active = self.tasks.len();
+        self.tasks.append(p);
+        Ok(active as u32)
+    }
+
+    // Loads.
+    fn fetch(&mut self, p: u32, a: u32) -> Answer
+        requires { ⌜ SoundBuffer (M·Memory .words) (M·Memory .sound) (now self) ⌝ }
+        ensures answer { λ r. ⌜ r ≡ answerOf (plainIn (M·Memory .words) (now (self .entry))) (Load p a) ⌝ }
+        ensures after { λ _. ⌜ plainIn (M·Memory .words) (now (self .exit)) ≡ stateAfter (plainIn (M·Memory .words) (now (self .entry))) (Load p a) ⌝ }
+        ensures beside { λ _. ⌜ M·Memory .spare (now (self .exit) .memory) ≡ M·Memory .spare (now (self .entry) .memory) ⌝ }
+        ensures kept { λ _. ⌜ SoundBuffer (M·Memory .words) (M·Memory .sound) (now (self .exit)) ⌝ }
+    {
+        let k = self.access(p, a)?;
+        let w = self.seen(k, a)?;
+        let version = self.tasks.version(p, a);
+        self.tasks.put(p, a, version.with_load());
+        Ok(w)
+    }
+
+    // Stores.
+    fn put(&mut self, p: u32, a: u32, w: u32) -> Answer
+        requires { ⌜ SoundBuffer (M·Memory .words) (M·Memory .sound) (now self) ⌝ }
+        ensures answer { λ r. ⌜ r ≡ answerOf (plainIn (M·Memory .words) (now (self .entry))) (Store p a w) ⌝ }
+        ensures after { λ _. ⌜ plainIn (M·Memory .words) (now (self .exit)) ≡ stateAfter (plainIn (M·Memory .words) (now (self .entry))) (Store p a w) ⌝ }
+        ensures beside { λ _. ⌜ M·Memory .spare (now (self .exit) .memory) ≡ M·Memory .spare (now (self .entry) .memory) ⌝ }
+        ensures kept { λ _. ⌜ SoundBuffer (M·Memory .words) (M·Memory .sound) (now (self .exit)) ⌝ }
+    {
+        let k = self.access(p, a)?;
+        let hit = self.tasks.squashed(k + 1, a);
+        let active = self.tasks.len();
+        self.tasks.cut(active - hit);
+        let version = self.tasks.version(p, a);
+        self.tasks.put(p, a, version.with_store(w));
+        Ok(hit as u32)
+    }
+
+    // Squashes.
+    fn cut(&mut self, p: u32) -> Answer
+        requires { ⌜ SoundBuffer (M·Memory .words) (M·Memory .sound) (now self) ⌝ }
+        ensures answer { λ r. ⌜ r ≡ answerOf (plainIn (M·Memory .words) (now (self .entry))) (Squash p) ⌝ }
+        ensures after { λ _. ⌜ plainIn (M·Memory .words) (now (self .exit)) ≡ stateAfter (plainIn (M·Memory .words) (now (self .entry))) (Squash p) ⌝ }
+        ensures beside { λ _. ⌜ M·Memory .spare (now (self .exit) .memory) ≡ M·Memory .spare (now (self .entry) .memory) ⌝ }
+        ensures kept { λ _. ⌜ SoundBuffer (M·Memory .words) (M·Memory .sound) (now (self .exit)) ⌝ }
+    {
+        let k = self.squashable(p)?;
+        let active = self.tasks.len();
+        self.tasks.cut(k);
+        Ok((active - k) as u32)
+    }
+
+    // Replaces.
+    fn give_back(&mut self, p: u32, a: u32) -> Answer
+        requires { ⌜ SoundBuffer (M·Memory .words) (M·Memory .sound) (now self) ⌝ }
+        ensures answer { λ r. ⌜ r ≡ answerOf (plainIn (M·Memory .words) (now (self .entry))) (Replace p a) ⌝ }
+        ensures after { λ _. ⌜ plainIn (M·Memory .words) (now (self .exit)) ≡ stateAfter (plainIn (M·Memory .words) (now (self .entry))) (Replace p a) ⌝ }
+        ensures beside { λ _. ⌜ M·Memory .spare (now (self .exit) .memory) ≡ M·Memory .spare (now (self .entry) .memory) ⌝ }
+        ensures kept { λ _. ⌜ SoundBuffer (M·Memory .words) (M·Memory .sound) (now (self .exit)) ⌝ }
+    {
+        let _k = self.replaceable(p, a)?;
+        let own = self.tasks.version(p, a).own;
+        let wrote = self.write_own(a, own);
+        self.tasks.put(p, a, Version::none());
+        Ok(wrote)
+    }
 }
