@@ -5,7 +5,7 @@ use mathlib.Core.Bool.{Bool, true, false, not, cond, _&&_, _||_}
 use mathlib.Core.List.{List, [], _∷_, map}
 use mathlib.Core.Logic.{_≢_, _⊎_, inl, inr, ⊎-elim}
 use mathlib.Core.Path.{_≡_, refl, sym, ap, subst, _∙_}
-use native.Mathlib.Numerals.{add-one}
+use native.Mathlib.Nat.{add-zero}
 use native.Mathlib.Omega.{arith}
 use lib.Dec.{eqb, ltb}
 use lib.ListN.{length, getD, set}
@@ -13,14 +13,14 @@ use Rattle.std.specs.Options.{isSome, valueOr}
 use Rattle.std.specs.declared.option.Option.{Option}
 use Rattle.std.specs.declared.option.Option.the-variants.{Some, None}
 use Rattle.std.proofs.shelf.Lists.{ext-getD, length-set, getD-set-same, getD-set-other}
-use Rattle.std.proofs.shelf.Tests.{eqb-true, eqb-false, eq-eqb, ne-eqb, cases-eq, cases-lt, lt-ltb, le-ltb, cond-true, cond-false, true≢false, or-left, or-right}
+use Rattle.std.proofs.shelf.Tests.{eqb-true, eqb-false, eq-eqb, ne-eqb, cases-eq, cases-lt, lt-ltb, le-ltb, cond-true, cond-false, true≢false, or-left, or-right, or-parts}
 use Rattle.std.proofs.shelf.Ways.{tells}
 use Rattle.memory.specs.Client.{countBelow}
 use Rattle.stores.specs.declared.version.Version.{Version}
 use Rattle.stores.specs.Cuts.{anyBelow}
 use Rattle.stores.specs.Versions.{noVersion, isOwn, isHeld, laidOver}
-use Rattle.stores.specs.Plain.{Task, holdsClass, laidOverAll}
-use Rattle.stores.specs.Tables.{HeldIn}
+use Rattle.stores.specs.Plain.{Task, holdsClass, laidOverAll, writtenTo}
+use Rattle.stores.specs.Tables.{HeldIn, upToClass, ClassWritten}
 use Rattle.stores.proofs.Holding.{length-laidOverAll, getD-laidOverAll}
 
 -- a test of the numbers below n: one passes; none does
@@ -68,10 +68,6 @@ class-taken t a n (Some b) h inside one = go (eqb b a) refl
     go false e =
         sym (anyBelow-some (λ c. isHeld (t .at c) && (not (eqb c a) && eqb (c % 16) (a % 16))) n b (inside b (h .1))
         (rw (h .1, e, eq-eqb (b % 16) (a % 16) (h .0))))
-
--- a task's versions of the classes below c
-abbrev pub upToClass : (ℕ → Version) → ℕ → ℕ → Version
-upToClass at c a = cond (ltb (a % 16) c) (at a) noVersion
 
 laidOverAll-ext : (f g : ℕ → Version) (ws : List ℕ) → ((a w : ℕ) → laidOver (f a) w ≡ laidOver (g a) w) → laidOverAll f ws ≡ laidOverAll g ws
 laidOverAll-ext f g ws same =
@@ -214,3 +210,57 @@ words-all at ws = laidOverAll-ext (upToClass at 16) at ws (λ a w. ap (λ (v : V
 
 pub count-all : (at : ℕ → Version) (n : ℕ) → countBelow (λ a. isOwn (upToClass at 16 a)) n ≡ countBelow (λ a. isOwn (at a)) n
 count-all at n = countBelow-ext (λ a. isOwn (upToClass at 16 a)) (λ a. isOwn (at a)) n (λ a. ap isOwn (all-classes at a))
+
+-- whether the address held of a class has an own word, and the words with it written
+abbrev pub heldOwn : (ℕ → Version) → Option ℕ → Bool
+heldOwn at None = false
+heldOwn at (Some b) = isOwn (at b)
+
+abbrev pub heldWritten : (ℕ → Version) → Option ℕ → List ℕ → List ℕ
+heldWritten at None vs = vs
+heldWritten at (Some b) vs = writtenTo (at b .own) b vs
+
+-- class c is written: nothing is held of it, or the own word of the address b that is held, if there is one
+pub class-written : (at : ℕ → Version) (c : ℕ) (ws vs : List ℕ) (n : ℕ) (o : Option ℕ) → HeldIn at c o
+    → ((b d : ℕ) → isHeld (at b) ≡ true → isHeld (at d) ≡ true → b % 16 ≡ d % 16 → b ≡ d)
+    → laidOverAll (upToClass at c) ws ≡ vs → n ≡ cond (heldOwn at o) 1 0 → (later : List ℕ) → later ≡ heldWritten at o vs
+    → ((b : ℕ) → o ≡ Some b → b < length ws) → ClassWritten at c ws later n
+class-written at c ws vs n None held one before n-is later later-is inside =
+    let none : (a : ℕ) → a % 16 ≡ c → isOwn (at a) ≡ false = λ a e. or-parts (at a .mark) (isOwn (at a)) (held a e) .1 in
+    record {
+      words = later-is ∙ (sym before ∙ sym (words-same at c ws none));
+      count = count-same at c (length ws) none ∙ (sym (add-zero (countBelow (λ a. isOwn (upToClass at c a)) (length ws))) ∙ ap (λ (k : ℕ). countBelow (λ a. isOwn (upToClass at c a)) (length ws) + k) (sym n-is));
+    }
+class-written at c ws vs n (Some b) held one before n-is later later-is inside = go (at b .own) refl n-is later-is
+  where
+    only : (a : ℕ) → a % 16 ≡ c → a ≢ b → isOwn (at a) ≡ false
+    only a e ne = not-own (isOwn (at a)) refl
+      where
+        not-own : (t : Bool) → isOwn (at a) ≡ t → t ≡ false
+        not-own true h = absurd (ne (one a b (or-right (at a .mark) (isOwn (at a)) h) (held .1) (e ∙ sym (held .0))))
+        not-own false h = refl
+
+    go : (own : Option ℕ) → at b .own ≡ own → n ≡ cond (isSome (at b .own)) 1 0 → later ≡ writtenTo (at b .own) b vs → ClassWritten at c ws later n
+    go None e k l =
+        let none : (a : ℕ) → a % 16 ≡ c → isOwn (at a) ≡ false =
+        λ a f. ⊎-elim (λ (s : a ≡ b). ap (λ (x : ℕ). isOwn (at x)) s ∙ ap isSome e) (λ (ne : a ≢ b). only a f ne) (cases-eq a b) in
+        let zero-is : n ≡ 0 = k ∙ ap (λ (o : Option ℕ). cond (isSome o) 1 0) e in
+        record {
+          words = l ∙ (ap (λ (o : Option ℕ). writtenTo o b vs) e ∙ (sym before ∙ sym (words-same at c ws none)));
+          count = count-same at c (length ws) none ∙ (sym (add-zero (countBelow (λ a. isOwn (upToClass at c a)) (length ws))) ∙ ap (λ (j : ℕ). countBelow (λ a. isOwn (upToClass at c a)) (length ws) + j) (sym zero-is));
+        }
+    go (Some w) e k l =
+        let one-is : n ≡ 1 = k ∙ ap (λ (o : Option ℕ). cond (isSome o) 1 0) e in
+        record {
+          words = l ∙ (ap (λ (o : Option ℕ). writtenTo o b vs) e ∙ (ap (λ (x : List ℕ). set x b w) (sym before) ∙ words-more at c b w (held .0) e only ws (inside b refl)));
+          count = count-more at c b w (held .0) e only (length ws) (inside b refl) ∙ ap (λ (j : ℕ). countBelow (λ a. isOwn (upToClass at c a)) (length ws) + j) (sym one-is);
+        }
+
+pub class-inside : (at : ℕ → Version) (c : ℕ) (ws vs : List ℕ) (b : ℕ) → laidOverAll (upToClass at c) ws ≡ vs → b < length vs → (d : ℕ) → Some b ≡ Some d → d < length ws
+class-inside at c ws vs b before l d e =
+    let same : b ≡ d = cc in
+    subst (λ (x : ℕ). x < length ws) same (subst (λ (n : ℕ). b < n) (ap length (sym before) ∙ length-laidOverAll (upToClass at c) ws) l)
+
+pub one-at-most : (n : ℕ) (t : Bool) → n ≡ cond t 1 0 → n ≤ 1
+one-at-most n true e = omega arith
+one-at-most n false e = omega arith

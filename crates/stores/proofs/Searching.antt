@@ -27,12 +27,12 @@ module _ (f : Row → Bool) (rs : List Row) (j : ℕ) (so-far : firstPlace f rs 
 
   pub place-none-left : length rs ≤ j → j ≤ length rs → length rs ≡ firstPlace f rs
   place-none-left h k =
-    let e : firstPlace f rs ≡ j = so-far ∙ (ap (λ (l : List Row). j + firstPlace f l) (drop-all j rs h) ∙ omega arith) in
-    omega arith
+      let e : firstPlace f rs ≡ j = so-far ∙ (ap (λ (l : List Row). j + firstPlace f l) (drop-all j rs h) ∙ omega arith) in
+      omega arith
 
 module _ (rs : List Row) (p a j : ℕ) (so-far : inRows rs p a ≡ inRows (drop j rs) p a) where
   in-at : j < length rs → inRows rs p a
-    ≡ cond (eqb (getD rs j noRow .address) a && isHeld (inRow (getD rs j noRow) p)) (inRow (getD rs j noRow) p) (inRows (drop (j + 1) rs) p a)
+      ≡ cond (eqb (getD rs j noRow .address) a && isHeld (inRow (getD rs j noRow) p)) (inRow (getD rs j noRow) p) (inRows (drop (j + 1) rs) p a)
   in-at h = so-far ∙ ap (λ (l : List Row). inRows l p a) (drop-more rs j noRow h)
 
   pub in-next : j < length rs → (eqb (getD rs j noRow .address) a && isHeld (inRow (getD rs j noRow) p)) ≡ false → inRows rs p a ≡ inRows (drop (j + 1) rs) p a

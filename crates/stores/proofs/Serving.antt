@@ -68,8 +68,8 @@ class-free n ps table p a x free b held class =
     ⊎-elim
     (λ (e : b ≡ a). e)
     (λ (ne : b ≡ a → ⊥).
-      let never = anyBelow-never (λ c. isHeld (table p c) && (not (eqb c a) && eqb (c % 16) (a % 16))) n free b (x .inside p b held) in
-      absurd (true≢false (sym (rw (held, ne-eqb b a ne, eq-eqb (b % 16) (a % 16) class)) ∙ never)))
+    let never = anyBelow-never (λ c. isHeld (table p c) && (not (eqb c a) && eqb (c % 16) (a % 16))) n free b (x .inside p b held) in
+    absurd (true≢false (sym (rw (held, ne-eqb b a ne, eq-eqb (b % 16) (a % 16) class)) ∙ never)))
     (cases-eq b a)
 
 module _ (ws ps : List ℕ) (table : Table) (apart : Apart ps) (x : Fitting (length ws) ps table) where
@@ -84,26 +84,26 @@ module _ (ws ps : List ℕ) (table : Table) (apart : Apart ps) (x : Fitting (len
   start-busy p h busy = start-judged p h ∙ ap (λ (t : Bool). cond t (Some TaskActive) None) busy
 
   pub serve-start : (p : ℕ) (later : List ℕ) (table′ : Table) → p < 4 → placeIn ps p ≡ None → later ≡ ps ++ p ∷ [] → table′ ≡ table
-    → Served (plainOf ws ps table) (Start p) (Ok (length ps)) ws later table′
+      → Served (plainOf ws ps table) (Start p) (Ok (length ps)) ws later table′
   serve-start p later table′ h none order same =
-    subst (λ (t : Table). Served (plainOf ws ps table) (Start p) (Ok (length ps)) ws later t) (sym same)
-    (subst (λ (l : List ℕ). Served (plainOf ws ps table) (Start p) (Ok (length ps)) ws l table) (sym order)
-    (served (plainOf ws ps table) (Start p) (length ps) ws (ps ++ p ∷ []) table
+      subst (λ (t : Table). Served (plainOf ws ps table) (Start p) (Ok (length ps)) ws later t) (sym same)
+      (subst (λ (l : List ℕ). Served (plainOf ws ps table) (Start p) (Ok (length ps)) ws l table) (sym order)
+      (served (plainOf ws ps table) (Start p) (length ps) ws (ps ++ p ∷ []) table
       (start-judged p h ∙ ap (λ (o : Option ℕ). cond (isSome o) (Some TaskActive) None) none)
       (sym (given-start ws ps table p)) (sym (moved-start ws ps table p (x .idle p none))) (fitting-start (length ws) ps table p x)))
 
   -- a load
   pub serve-load : (p a k w : ℕ) (ws′ : List ℕ) (later : List ℕ) (table′ : Table) → Ok k ≡ accessPlace (length ws) ps table p a
-    → w ≡ seenBy (map (λ q. table q a) (take (k + 1) ps)) (getD ws a 0) → ws′ ≡ ws → later ≡ ps → table′ ≡ withVersion table p a (withLoad (table p a))
-    → Served (plainOf ws ps table) (Load p a) (Ok w) ws′ later table′
+      → w ≡ seenBy (map (λ q. table q a) (take (k + 1) ps)) (getD ws a 0) → ws′ ≡ ws → later ≡ ps → table′ ≡ withVersion table p a (withLoad (table p a))
+      → Served (plainOf ws ps table) (Load p a) (Ok w) ws′ later table′
   serve-load p a k w ws′ later table′ ok w-is words order same =
-    let y = ok-access (length ws) ps table p a k ok in
-    let new = withVersion table p a (withLoad (table p a)) in
-    let seen : w ≡ seenBy (map (λ q. table q a) (take (suc k) ps)) (getD ws a 0) = w-is ∙ ap (λ (j : ℕ). seenBy (map (λ q. table q a) (take j ps)) (getD ws a 0)) (add-one k) in
-    subst (λ (t : Table). Served (plainOf ws ps table) (Load p a) (Ok w) ws′ later t) (sym same)
-    (subst (λ (l : List ℕ). Served (plainOf ws ps table) (Load p a) (Ok w) ws′ l new) (sym order)
-    (subst (λ (v : List ℕ). Served (plainOf ws ps table) (Load p a) (Ok w) v ps new) (sym words)
-    (served (plainOf ws ps table) (Load p a) w ws ps new
+      let y = ok-access (length ws) ps table p a k ok in
+      let new = withVersion table p a (withLoad (table p a)) in
+      let seen : w ≡ seenBy (map (λ q. table q a) (take (suc k) ps)) (getD ws a 0) = w-is ∙ ap (λ (j : ℕ). seenBy (map (λ q. table q a) (take j ps)) (getD ws a 0)) (add-one k) in
+      subst (λ (t : Table). Served (plainOf ws ps table) (Load p a) (Ok w) ws′ later t) (sym same)
+      (subst (λ (l : List ℕ). Served (plainOf ws ps table) (Load p a) (Ok w) ws′ l new) (sym order)
+      (subst (λ (v : List ℕ). Served (plainOf ws ps table) (Load p a) (Ok w) v ps new) (sym words)
+      (served (plainOf ws ps table) (Load p a) w ws ps new
       (accepted-by (plainOf ws ps table) (Load p a) k (accessPlace (length ws) ps table p a) (load-agrees ws ps table p a) ok)
       (seen ∙ sym (given-load ws ps table p k apart (y .0) a))
       (sym (moved-load ws ps table p k apart (y .0) a))
@@ -111,12 +111,12 @@ module _ (ws ps : List ℕ) (table : Table) (apart : Apart ps) (x : Fitting (len
 
   -- a squash
   pub serve-squash : (p k n : ℕ) (later : List ℕ) (table′ : Table) → Ok k ≡ squashPlace ps p → n ≡ length ps - k → later ≡ take k ps → table′ ≡ withoutAll table (drop k ps)
-    → Served (plainOf ws ps table) (Squash p) (Ok n) ws later table′
+      → Served (plainOf ws ps table) (Squash p) (Ok n) ws later table′
   serve-squash p k n later table′ ok n-is order same =
-    let y = ok-squash ps p k ok in
-    subst (λ (t : Table). Served (plainOf ws ps table) (Squash p) (Ok n) ws later t) (sym same)
-    (subst (λ (l : List ℕ). Served (plainOf ws ps table) (Squash p) (Ok n) ws l (withoutAll table (drop k ps))) (sym order)
-    (served (plainOf ws ps table) (Squash p) n ws (take k ps) (withoutAll table (drop k ps))
+      let y = ok-squash ps p k ok in
+      subst (λ (t : Table). Served (plainOf ws ps table) (Squash p) (Ok n) ws later t) (sym same)
+      (subst (λ (l : List ℕ). Served (plainOf ws ps table) (Squash p) (Ok n) ws l (withoutAll table (drop k ps))) (sym order)
+      (served (plainOf ws ps table) (Squash p) n ws (take k ps) (withoutAll table (drop k ps))
       (accepted-by (plainOf ws ps table) (Squash p) k (squashPlace ps p) (squash-agrees ws ps table p) ok)
       (n-is ∙ sym (given-squash ws ps table p k apart (y .0)))
       (plain-cut ws ps table k apart ∙ sym (moved-squash ws ps table p k apart (y .0)))
@@ -124,15 +124,15 @@ module _ (ws ps : List ℕ) (table : Table) (apart : Apart ps) (x : Fitting (len
 
   -- a commit
   pub serve-commit : (p k n : ℕ) (ws′ later : List ℕ) (table′ : Table) → Ok k ≡ commitPlace ps p → n ≡ countBelow (λ a. isOwn (table p a)) (length ws)
-    → ws′ ≡ laidOverAll (table p) ws → later ≡ drop 1 ps → table′ ≡ without table p → Served (plainOf ws ps table) (Commit p) (Ok n) ws′ later table′
+      → ws′ ≡ laidOverAll (table p) ws → later ≡ drop 1 ps → table′ ≡ without table p → Served (plainOf ws ps table) (Commit p) (Ok n) ws′ later table′
   serve-commit p k n ws′ later table′ ok n-is words order same =
-    let y = ok-commit ps p k ok in
-    let first : placeIn ps p ≡ Some 0 = y .0 ∙ ap Some (y .2) in
-    let ws₂ = laidOverAll (table p) ws in
-    subst (λ (t : Table). Served (plainOf ws ps table) (Commit p) (Ok n) ws′ later t) (sym same)
-    (subst (λ (l : List ℕ). Served (plainOf ws ps table) (Commit p) (Ok n) ws′ l (without table p)) (sym order)
-    (subst (λ (v : List ℕ). Served (plainOf ws ps table) (Commit p) (Ok n) v (drop 1 ps) (without table p)) (sym words)
-    (served (plainOf ws ps table) (Commit p) n ws₂ (drop 1 ps) (without table p)
+      let y = ok-commit ps p k ok in
+      let first : placeIn ps p ≡ Some 0 = y .0 ∙ ap Some (y .2) in
+      let ws₂ = laidOverAll (table p) ws in
+      subst (λ (t : Table). Served (plainOf ws ps table) (Commit p) (Ok n) ws′ later t) (sym same)
+      (subst (λ (l : List ℕ). Served (plainOf ws ps table) (Commit p) (Ok n) ws′ l (without table p)) (sym order)
+      (subst (λ (v : List ℕ). Served (plainOf ws ps table) (Commit p) (Ok n) v (drop 1 ps) (without table p)) (sym words)
+      (served (plainOf ws ps table) (Commit p) n ws₂ (drop 1 ps) (without table p)
       (accepted-by (plainOf ws ps table) (Commit p) k (commitPlace ps p) (commit-agrees ws ps table p) ok)
       (n-is ∙ sym (given-commit ws ps table p k apart (y .0)))
       (plain-retire ws₂ ps table p apart first ∙ sym (moved-commit ws ps table p k apart (y .0) (y .2)))
@@ -140,60 +140,60 @@ module _ (ws ps : List ℕ) (table : Table) (apart : Apart ps) (x : Fitting (len
 
   -- a replacement
   pub serve-replace : (p a k n : ℕ) (ws′ later : List ℕ) (table′ : Table) → Ok k ≡ replacePlace (length ws) ps table p a → n ≡ cond (isOwn (table p a)) 1 0
-    → ws′ ≡ writtenTo (table p a .own) a ws → later ≡ ps → table′ ≡ withVersion table p a noVersion → Served (plainOf ws ps table) (Replace p a) (Ok n) ws′ later table′
+      → ws′ ≡ writtenTo (table p a .own) a ws → later ≡ ps → table′ ≡ withVersion table p a noVersion → Served (plainOf ws ps table) (Replace p a) (Ok n) ws′ later table′
   serve-replace p a k n ws′ later table′ ok n-is words order same =
-    let y = ok-replace (length ws) ps table p a k ok in
-    let ws₂ = writtenTo (table p a .own) a ws in
-    let new = withVersion table p a noVersion in
-    subst (λ (t : Table). Served (plainOf ws ps table) (Replace p a) (Ok n) ws′ later t) (sym same)
-    (subst (λ (l : List ℕ). Served (plainOf ws ps table) (Replace p a) (Ok n) ws′ l new) (sym order)
-    (subst (λ (v : List ℕ). Served (plainOf ws ps table) (Replace p a) (Ok n) v ps new) (sym words)
-    (served (plainOf ws ps table) (Replace p a) n ws₂ ps new
+      let y = ok-replace (length ws) ps table p a k ok in
+      let ws₂ = writtenTo (table p a .own) a ws in
+      let new = withVersion table p a noVersion in
+      subst (λ (t : Table). Served (plainOf ws ps table) (Replace p a) (Ok n) ws′ later t) (sym same)
+      (subst (λ (l : List ℕ). Served (plainOf ws ps table) (Replace p a) (Ok n) ws′ l new) (sym order)
+      (subst (λ (v : List ℕ). Served (plainOf ws ps table) (Replace p a) (Ok n) v ps new) (sym words)
+      (served (plainOf ws ps table) (Replace p a) n ws₂ ps new
       (accepted-by (plainOf ws ps table) (Replace p a) k (replacePlace (length ws) ps table p a) (replace-agrees ws ps table p a) ok)
       (n-is ∙ sym (given-replace ws ps table p k apart (y .0) a))
       (sym (moved-replace ws ps table p k apart (y .0) a))
       (subst (λ (m : ℕ). Fitting m ps new) (sym (length-writtenTo (table p a .own) a ws))
-        (fitting-put (length ws) ps table p k a noVersion x (y .0) (y .2) (replaced-class p a (y .4)))))))
+      (fitting-put (length ws) ps table p k a noVersion x (y .0) (y .2) (replaced-class p a (y .4)))))))
     where
-    replaced-class : (p a : ℕ) → isHeld (table p a) ≡ true → (b : ℕ) → isHeld (table p b) ≡ true → b % 16 ≡ a % 16 → b ≡ a
-    replaced-class p a held b other class = x .one p b a other held class
+      replaced-class : (p a : ℕ) → isHeld (table p a) ≡ true → (b : ℕ) → isHeld (table p b) ≡ true → b % 16 ≡ a % 16 → b ≡ a
+      replaced-class p a held b other class = x .one p b a other held class
 
   -- a store: the later tasks that it hits are cut off first
   pub kept-version : (p k m a : ℕ) → placeIn ps p ≡ Some k → k < m → (b : ℕ) → withoutAll table (drop m ps) p b ≡ table p b
   kept-version p k m a place h b =
-    withoutAll-value table (drop m ps) p b ∙ ap (λ (o : Option ℕ). cond (isSome o) noVersion (table p b)) (parts-none m ps p k apart place h)
+      withoutAll-value table (drop m ps) p b ∙ ap (λ (o : Option ℕ). cond (isSome o) noVersion (table p b)) (parts-none m ps p k apart place h)
 
   pub serve-store : (p a w k n : ℕ) (later : List ℕ) (table₁ table′ : Table) → Ok k ≡ accessPlace (length ws) ps table p a
-    → n ≡ squashes table ps k a → later ≡ take (length ps - n) ps → table₁ ≡ withoutAll table (drop (length ps - n) ps) → table′ ≡ withVersion table₁ p a (withStore w (table₁ p a))
-    → Served (plainOf ws ps table) (Store p a w) (Ok n) ws later table′
+      → n ≡ squashes table ps k a → later ≡ take (length ps - n) ps → table₁ ≡ withoutAll table (drop (length ps - n) ps) → table′ ≡ withVersion table₁ p a (withStore w (table₁ p a))
+      → Served (plainOf ws ps table) (Store p a w) (Ok n) ws later table′
   serve-store p a w k n later table₁ table′ ok n-is order cut same =
-    let y = ok-access (length ws) ps table p a k ok in
-    let m = length ps - n in
-    let le : k < m = subst (λ (j : ℕ). k < length ps - j) (sym n-is) (squashes-le table ps p k a (y .0)) in
-    let less = withoutAll table (drop m ps) in
-    let mine : (b : ℕ) → less p b ≡ table p b = kept-version p k m a (y .0) le in
-    let new = withVersion less p a (withStore w (less p a)) in
-    let plain-new = withVersion table p a (withStore w (table p a)) in
-    let table-is : table′ ≡ new = same ∙ ap (λ (t : Table). withVersion t p a (withStore w (t p a))) cut in
-    let agree : plainOf ws (take m ps) new ≡ plainOf ws (take m ps) plain-new =
+      let y = ok-access (length ws) ps table p a k ok in
+      let m = length ps - n in
+      let le : k < m = subst (λ (j : ℕ). k < length ps - j) (sym n-is) (squashes-le table ps p k a (y .0)) in
+      let less = withoutAll table (drop m ps) in
+      let mine : (b : ℕ) → less p b ≡ table p b = kept-version p k m a (y .0) le in
+      let new = withVersion less p a (withStore w (less p a)) in
+      let plain-new = withVersion table p a (withStore w (table p a)) in
+      let table-is : table′ ≡ new = same ∙ ap (λ (t : Table). withVersion t p a (withStore w (t p a))) cut in
+      let agree : plainOf ws (take m ps) new ≡ plainOf ws (take m ps) plain-new =
       ap (λ l. record { memory = ws; order = l })
       (tasks-same new plain-new (take m ps)
-        (λ q j inside b.
-          ap (λ (v : Version). cond (eqb q p && eqb a b) (withStore w v) (less q b)) (mine a)
-          ∙ ap (λ (v : Version). cond (eqb q p && eqb a b) (withStore w (table p a)) v) (front-kept q j m inside b))) in
-    let class : (b : ℕ) → isHeld (less p b) ≡ true → b % 16 ≡ a % 16 → b ≡ a =
+      (λ q j inside b.
+      ap (λ (v : Version). cond (eqb q p && eqb a b) (withStore w v) (less q b)) (mine a)
+      ∙ ap (λ (v : Version). cond (eqb q p && eqb a b) (withStore w (table p a)) v) (front-kept q j m inside b))) in
+      let class : (b : ℕ) → isHeld (less p b) ≡ true → b % 16 ≡ a % 16 → b ≡ a =
       λ b held e. class-free (length ws) ps table p a x (y .3) b (held-without table (drop m ps) p b held) e in
-    subst (λ (t : Table). Served (plainOf ws ps table) (Store p a w) (Ok n) ws later t) (sym table-is)
-    (subst (λ (l : List ℕ). Served (plainOf ws ps table) (Store p a w) (Ok n) ws l new) (sym order)
-    (served (plainOf ws ps table) (Store p a w) n ws (take m ps) new
+      subst (λ (t : Table). Served (plainOf ws ps table) (Store p a w) (Ok n) ws later t) (sym table-is)
+      (subst (λ (l : List ℕ). Served (plainOf ws ps table) (Store p a w) (Ok n) ws l new) (sym order)
+      (served (plainOf ws ps table) (Store p a w) n ws (take m ps) new
       (accepted-by (plainOf ws ps table) (Store p a w) k (accessPlace (length ws) ps table p a) (load-agrees ws ps table p a) ok)
       (n-is ∙ sym (given-store ws ps table p k apart (y .0) a w))
       (agree ∙ sym (moved-store ws ps table p k apart (y .0) a w ∙ ap (λ (j : ℕ). plainOf ws (take (length ps - j) ps) plain-new) (sym n-is)))
       (fitting-put (length ws) (take m ps) less p k a (withStore w (less p a)) (fitting-cut (length ws) ps table m x) (place-take m ps p k (y .0) le) (y .2) class)))
     where
-    front-kept : (q j m : ℕ) → placeIn (take m ps) q ≡ Some j → (b : ℕ) → withoutAll table (drop m ps) q b ≡ table q b
-    front-kept q j m inside b =
-      withoutAll-value table (drop m ps) q b ∙ ap (λ (o : Option ℕ). cond (isSome o) noVersion (table q b)) (front-out m ps q j apart inside)
+      front-kept : (q j m : ℕ) → placeIn (take m ps) q ≡ Some j → (b : ℕ) → withoutAll table (drop m ps) q b ≡ table q b
+      front-kept q j m inside b =
+          withoutAll-value table (drop m ps) q b ∙ ap (λ (o : Option ℕ). cond (isSome o) noVersion (table q b)) (front-out m ps q j apart inside)
 
 pub none-from : (o : Option ℕ) → isSome o ≡ false → o ≡ None
 none-from None e = refl
@@ -213,7 +213,6 @@ load-version table now p a v loaded later same v-is loaded-is later-is =
 pub store-version : (table : Table) (p a w : ℕ) (v stored : Version) (later : Table) → v ≡ table p a → stored ≡ withStore w v → later ≡ withVersion table p a stored
     → later ≡ withVersion table p a (withStore w (table p a))
 store-version table p a w v stored later v-is stored-is later-is = later-is ∙ ap (withVersion table p a) (stored-is ∙ ap (withStore w) v-is)
-
 
 -- a read of the memory inside its size gives the word
 pub read-inside : (ws : List ℕ) (a w : ℕ) → a < length ws → Ok w ≡ readAnswer ws a → w ≡ getD ws a 0

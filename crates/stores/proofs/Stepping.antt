@@ -31,23 +31,23 @@ nearest-push (u ∷ vs) v = ap (λ (o : Option ℕ). orEarlier o (u .own)) (near
 module _ (f : ℕ → Version) (ps : List ℕ) (i : ℕ) (h : i < length ps) (found own later : Option ℕ) (so-far : found ≡ nearestOwn (map f (take i ps))) (is : own ≡ f (getD ps i 0) .own) where
   more : nearestOwn (map f (take (i + 1) ps)) ≡ orEarlier own found
   more =
-    ap (λ (l : List ℕ). nearestOwn (map f l)) (take-more ps i 0 h)
-    ∙ (ap nearestOwn (map-append f (take i ps) (getD ps i 0 ∷ []))
-    ∙ (nearest-push (map f (take i ps)) (f (getD ps i 0)) ∙ (ap (λ (o : Option ℕ). orEarlier o (nearestOwn (map f (take i ps)))) (sym is) ∙ ap (orEarlier own) (sym so-far))))
+      ap (λ (l : List ℕ). nearestOwn (map f l)) (take-more ps i 0 h)
+      ∙ (ap nearestOwn (map-append f (take i ps) (getD ps i 0 ∷ []))
+      ∙ (nearest-push (map f (take i ps)) (f (getD ps i 0)) ∙ (ap (λ (o : Option ℕ). orEarlier o (nearestOwn (map f (take i ps)))) (sym is) ∙ ap (orEarlier own) (sym so-far))))
 
   pub nearest-own : isSome own ≡ true → later ≡ own → later ≡ nearestOwn (map f (take (i + 1) ps))
   nearest-own some e = e ∙ (go own some ∙ sym more)
     where
-    go : (o : Option ℕ) → isSome o ≡ true → o ≡ orEarlier o found
-    go None s = absurd (true≢false (sym s))
-    go (Some w) s = refl
+      go : (o : Option ℕ) → isSome o ≡ true → o ≡ orEarlier o found
+      go None s = absurd (true≢false (sym s))
+      go (Some w) s = refl
 
   pub nearest-earlier : isSome own ≡ false → later ≡ found → later ≡ nearestOwn (map f (take (i + 1) ps))
   nearest-earlier none e = e ∙ (go own none ∙ sym more)
     where
-    go : (o : Option ℕ) → isSome o ≡ false → found ≡ orEarlier o found
-    go None s = refl
-    go (Some w) s = absurd (true≢false s)
+      go : (o : Option ℕ) → isSome o ≡ false → found ≡ orEarlier o found
+      go None s = refl
+      go (Some w) s = absurd (true≢false s)
 
 pub nearest-all : (f : ℕ → Version) (ps : List ℕ) (i k : ℕ) (found : Option ℕ) → i ≡ k → found ≡ nearestOwn (map f (take i ps)) → found ≡ nearestOwn (map f (take k ps))
 nearest-all f ps i k found e is = is ∙ ap (λ (j : ℕ). nearestOwn (map f (take j ps))) e
@@ -57,19 +57,19 @@ pub seen-nearest : (vs : List Version) (w : ℕ) → seenBy vs w ≡ valueOr (ne
 seen-nearest [] w = refl
 seen-nearest (v ∷ vs) w = seen-nearest vs (laidOver v w) ∙ go (nearestOwn vs)
   where
-  go : (o : Option ℕ) → valueOr o (laidOver v w) ≡ valueOr (orEarlier o (v .own)) w
-  go None = refl
-  go (Some x) = refl
+    go : (o : Option ℕ) → valueOr o (laidOver v w) ≡ valueOr (orEarlier o (v .own)) w
+    go None = refl
+    go (Some x) = refl
 
 module _ (f : ℕ → Version) (ps : List ℕ) (k i : ℕ) (so-far : squashedBy (map f (drop k ps)) ≡ squashedBy (map f (drop i ps))) where
   squash-at : i < length ps → squashedBy (map f (drop k ps))
-    ≡ cond (f (getD ps i 0) .mark) (suc (length (map f (drop (i + 1) ps)))) (cond (isOwn (f (getD ps i 0))) 0 (squashedBy (map f (drop (i + 1) ps))))
+      ≡ cond (f (getD ps i 0) .mark) (suc (length (map f (drop (i + 1) ps)))) (cond (isOwn (f (getD ps i 0))) 0 (squashedBy (map f (drop (i + 1) ps))))
   squash-at h = so-far ∙ ap (λ (l : List ℕ). squashedBy (map f l)) (drop-more ps i 0 h)
 
   pub squash-marked : (n : ℕ) → n ≡ length ps → i < length ps → f (getD ps i 0) .mark ≡ true → n - i ≡ squashedBy (map f (drop k ps))
   squash-marked n e h m =
-    sym (squash-at h ∙ (cond-true (f (getD ps i 0) .mark) (suc (length (map f (drop (i + 1) ps)))) (cond (isOwn (f (getD ps i 0))) 0 (squashedBy (map f (drop (i + 1) ps)))) m
-    ∙ omega (arith, length-map (drop (i + 1) ps) f, length-drop (i + 1) ps)))
+      sym (squash-at h ∙ (cond-true (f (getD ps i 0) .mark) (suc (length (map f (drop (i + 1) ps)))) (cond (isOwn (f (getD ps i 0))) 0 (squashedBy (map f (drop (i + 1) ps)))) m
+      ∙ omega (arith, length-map (drop (i + 1) ps) f, length-drop (i + 1) ps)))
 
   unmarked : i < length ps → f (getD ps i 0) .mark ≡ false → squashedBy (map f (drop k ps)) ≡ cond (isOwn (f (getD ps i 0))) 0 (squashedBy (map f (drop (i + 1) ps)))
   unmarked h m = squash-at h ∙ cond-false (f (getD ps i 0) .mark) (suc (length (map f (drop (i + 1) ps)))) (cond (isOwn (f (getD ps i 0))) 0 (squashedBy (map f (drop (i + 1) ps)))) m

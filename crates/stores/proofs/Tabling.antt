@@ -132,9 +132,9 @@ tasks-same other table (q ∷ ps) agree =
     ap (λ (t : Task). t ∷ map (taskBy other) ps) same
     ∙ ap (λ (l : List Task). taskBy table q ∷ l) (tasks-same other table ps (λ r k e b. later r k e b (eqb q r) refl))
   where
-  later : (r k : ℕ) → placeIn ps r ≡ Some k → (b : ℕ) (t : Bool) → eqb q r ≡ t → other r b ≡ table r b
-  later r k e b true h = agree r 0 (cond-true (eqb q r) (Some 0) (mapped suc (placeIn ps r)) h) b
-  later r k e b false h = agree r (suc k) (cond-false (eqb q r) (Some 0) (mapped suc (placeIn ps r)) h ∙ ap (mapped suc) e) b
+    later : (r k : ℕ) → placeIn ps r ≡ Some k → (b : ℕ) (t : Bool) → eqb q r ≡ t → other r b ≡ table r b
+    later r k e b true h = agree r 0 (cond-true (eqb q r) (Some 0) (mapped suc (placeIn ps r)) h) b
+    later r k e b false h = agree r (suc k) (cond-false (eqb q r) (Some 0) (mapped suc (placeIn ps r)) h ∙ ap (mapped suc) e) b
 
 withVersion-other : (table : Table) (p a : ℕ) (v : Version) (q b : ℕ) → eqb q p ≡ false → withVersion table p a v q b ≡ table q b
 withVersion-other table p a v q b e = rw e

@@ -1,10 +1,12 @@
 -- The versions that a store keeps, as a table by processor and address, and the plain state that a table stands for
 -- together with an order of processors.
-use Prim.Native.Nat.{ℕ, _%_, _<_}
+use Prim.Native.Nat.{ℕ, _+_, _%_, _<_}
 use mathlib.Core.Bool.{Bool, true, false, not, cond, _&&_}
 use mathlib.Core.List.{List, [], _∷_, map}
 use mathlib.Core.Path.{_≡_}
-use lib.Dec.{eqb, leb}
+use lib.Dec.{eqb, leb, ltb}
+use lib.ListN.{length}
+use Rattle.memory.specs.Client.{countBelow}
 use Rattle.std.specs.Options.{okOr}
 use Rattle.std.specs.declared.option.Option.{Option}
 use Rattle.std.specs.declared.option.Option.the-variants.{Some, None}
@@ -14,8 +16,8 @@ use Rattle.stores.specs.declared.refusal.Refusal.{Refusal}
 use Rattle.stores.specs.declared.refusal.Refusal.the-variants.{NoProcessor, NoTask, NoAddress, ClassTaken, NotHead, IsHead, NotHeld}
 use Rattle.stores.specs.declared.version.Version.{Version}
 use Rattle.stores.specs.Orders.{placeIn}
-use Rattle.stores.specs.Versions.{noVersion, isHeld}
-use Rattle.stores.specs.Plain.{Task, Plain, holdsClass}
+use Rattle.stores.specs.Versions.{noVersion, isOwn, isHeld}
+use Rattle.stores.specs.Plain.{Task, Plain, holdsClass, laidOverAll}
 
 -- the version of each processor's task at each address
 abbrev pub Table : Type 0
@@ -77,3 +79,12 @@ commitPlace ps p = unless (activePlace ps p) (λ k. not (eqb k 0)) NotHead
 abbrev pub replacePlace : ℕ → List ℕ → Table → ℕ → ℕ → Result ℕ Refusal
 replacePlace n ps table p a =
     unless (unless (unless (activePlace ps p) (λ k. leb n a) NoAddress) (λ k. not (eqb k 0)) NotHead) (λ k. not (isHeld (table p a))) NotHeld
+
+-- a task's versions of the classes below c
+abbrev pub upToClass : (ℕ → Version) → ℕ → ℕ → Version
+upToClass at c a = cond (ltb (a % 16) c) (at a) noVersion
+
+-- class c is written over what the classes below c made of the words ws: vs are the words then, and n own words were written
+pub record ClassWritten (at : ℕ → Version) (c : ℕ) (ws vs : List ℕ) (n : ℕ) : Type 0 where
+  pub words : vs ≡ laidOverAll (upToClass at (c + 1)) ws
+  pub count : countBelow (λ a. isOwn (upToClass at (c + 1) a)) (length ws) ≡ countBelow (λ a. isOwn (upToClass at c a)) (length ws) + n

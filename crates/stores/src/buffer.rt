@@ -12,8 +12,8 @@ ghost use Rattle.std.specs.declared.option.Option.{Option};
 ghost use Rattle.std.specs.declared.result.Result.the-variants.{Ok};
 ghost use Rattle.stores.specs.declared.turn.Turn.the-variants.{Start, Load, Store, Squash, Commit, Replace};
 ghost use Rattle.stores.specs.Buffers.{plainIn, SoundBuffer};
-ghost use Rattle.stores.specs.Plain.{opened, laidOverAll, writtenTo, answerOf, stateAfter};
-ghost use Rattle.stores.specs.Tables.{activePlace, accessPlace, squashPlace, commitPlace, replacePlace};
+ghost use Rattle.stores.specs.Plain.{activeTasks, opened, laidOverAll, writtenTo, answerOf, stateAfter};
+ghost use Rattle.stores.specs.Tables.{Fitting, upToClass, ClassWritten, activePlace, accessPlace, squashPlace, commitPlace, replacePlace};
 ghost use Rattle.stores.specs.Tasks.{processorsOf, tableOf, versionsAt, GoodTasks};
 ghost use Rattle.stores.specs.Versions.{isOwn, seenBy};
 use crate::refusal::Answer;
@@ -38,7 +38,18 @@ impl<M: Memory> CentralBuffer<M> {
         ensures beside { λ r. ⌜ M·Memory .spare (r .memory) ≡ M·Memory .spare memory ⌝ }
         ensures kept { λ r. ⌜ SoundBuffer (M·Memory .words) (M·Memory .sound) r ⌝ }
     {
-        CentralBuffer { memory, tasks: Tasks::new() }
+        CentralBuffer {
+            memory,
+            tasks: Tasks::new(),
+        }
+    }
+
+    // The number of active tasks.
+    fn active_count(&self) -> u32
+        requires { ⌜ GoodTasks (now self .tasks) ⌝ }
+        ensures { λ r. ⌜ r ≡ activeTasks (plainIn (M·Memory .words) (now (self .entry))) ⌝ }
+    {
+        self.tasks.len() as u32
     }
 
     // The place of p's task, unless p is no processor or has no task.
@@ -227,5 +238,98 @@ impl<M: Memory> CentralBuffer<M> {
         let wrote = self.write_own(a, own);
         self.tasks.put(p, a, Version::none());
         Ok(wrote)
+    }
+
+    // Writes the own word that p's task has of class c to memory, if it has one, and gives how many it wrote. What the
+    // classes before c have written is in memory already.
+    fn write_class(&mut self, p: u32, c: u32) -> u32
+        requires { ⌜ M·Memory .sound (now self .memory) ⌝ }
+        requires { ⌜ GoodTasks (now self .tasks) ⌝ }
+        requires { ⌜ Fitting (length (M·Memory .words (now self .memory))) (processorsOf (now self .tasks)) (tableOf (now self .tasks)) ⌝ }
+        requires { ⌜ p < 4 ⌝ }
+        requires { ⌜ c < 16 ⌝ }
+        ensures class { λ r. ⌜ ((ws : List ℕ) → M·Memory .words (now (self .entry) .memory) ≡ laidOverAll (upToClass (tableOf (now (self .entry) .tasks) p) c) ws → ClassWritten (tableOf (now (self .entry) .tasks) p) c ws (M·Memory .words (now (self .exit) .memory)) r) ⌝ }
+        ensures size { λ _. ⌜ length (M·Memory .words (now (self .exit) .memory)) ≡ length (M·Memory .words (now (self .entry) .memory)) ⌝ }
+        ensures bound { λ r. ⌜ r ≤ 1 ⌝ }
+        ensures tasks { λ _. ⌜ now (self .exit) .tasks ≡ now (self .entry) .tasks ⌝ }
+        ensures beside { λ _. ⌜ M·Memory .spare (now (self .exit) .memory) ≡ M·Memory .spare (now (self .entry) .memory) ⌝ }
+        ensures kept { λ _. ⌜ M·Memory .sound (now (self .exit) .memory) ⌝ }
+    {
+        match self.tasks.held(p, c) {
+            Some(b) => {
+                let own = self.tasks.version(p, b).own;
+                self.write_own(b, own)
+            }
+            None => 0,
+        }
+    }
+
+    // Writes the own words of p's task to memory, class by class, and gives their number.
+    fn write_back(&mut self, p: u32) -> u32
+        requires { ⌜ SoundBuffer (M·Memory .words) (M·Memory .sound) (now self) ⌝ }
+        requires { ⌜ p < 4 ⌝ }
+        ensures count { λ r. ⌜ r ≡ countBelow (λ a. isOwn (tableOf (now (self .entry) .tasks) p a)) (length (M·Memory .words (now (self .entry) .memory))) ⌝ }
+        ensures words { λ _. ⌜ M·Memory .words (now (self .exit) .memory) ≡ laidOverAll (tableOf (now (self .entry) .tasks) p) (M·Memory .words (now (self .entry) .memory)) ⌝ }
+        ensures tasks { λ _. ⌜ now (self .exit) .tasks ≡ now (self .entry) .tasks ⌝ }
+        ensures beside { λ _. ⌜ M·Memory .spare (now (self .exit) .memory) ≡ M·Memory .spare (now (self .entry) .memory) ⌝ }
+        ensures kept { λ _. ⌜ M·Memory .sound (now (self .exit) .memory) ⌝ }
+    {
+        let mut wrote = 0;
+        for c in 0..16 {
+            wrote += self.write_class(p, c);
+        }
+        wrote
+    }
+
+    // Commits.
+    fn retire(&mut self, p: u32) -> Answer
+        requires { ⌜ SoundBuffer (M·Memory .words) (M·Memory .sound) (now self) ⌝ }
+        ensures answer { λ r. ⌜ r ≡ answerOf (plainIn (M·Memory .words) (now (self .entry))) (Commit p) ⌝ }
+        ensures after { λ _. ⌜ plainIn (M·Memory .words) (now (self .exit)) ≡ stateAfter (plainIn (M·Memory .words) (now (self .entry))) (Commit p) ⌝ }
+        ensures beside { λ _. ⌜ M·Memory .spare (now (self .exit) .memory) ≡ M·Memory .spare (now (self .entry) .memory) ⌝ }
+        ensures kept { λ _. ⌜ SoundBuffer (M·Memory .words) (M·Memory .sound) (now (self .exit)) ⌝ }
+    {
+        let _k = self.committable(p)?;
+        let wrote = self.write_back(p);
+        self.tasks.retire(p);
+        Ok(wrote)
+    }
+}
+
+pub impl<M: Memory> VersionStore for CentralBuffer<M> as CentralBufferStore {
+    type Below = M;
+
+    ghost plain = { plainIn (M·Memory .words) };
+
+    ghost sound = { SoundBuffer (M·Memory .words) (M·Memory .sound) };
+
+    ghost spare = { λ b. M·Memory .spare (b .memory) };
+
+    fn take_turn(&mut self, turn: Turn) -> Answer {
+        match turn {
+            Turn::Start { p } => self.begin(p),
+            Turn::Load { p, a } => self.fetch(p, a),
+            Turn::Store { p, a, w } => self.put(p, a, w),
+            Turn::Squash { p } => self.cut(p),
+            Turn::Commit { p } => self.retire(p),
+            Turn::Replace { p, a } => self.give_back(p, a),
+        }
+    }
+
+    fn word(&mut self, a: u32) -> Result<u32, Refusal> {
+        Ok(self.memory.read(a)?)
+    }
+
+    fn tasks(&self) -> u32 {
+        self.active_count()
+    }
+
+    fn size(&self) -> u32 {
+        self.memory.size()
+    }
+
+    fn close(self) -> M {
+        let CentralBuffer { memory, tasks: _ } = self;
+        memory
     }
 }

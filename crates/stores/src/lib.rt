@@ -11,6 +11,7 @@ mod turn;
 mod version;
 
 pub use buffer::CentralBuffer;
+pub use buffer::CentralBufferStore;
 pub use play::AnswersFull;
 pub use play::play_turn;
 pub use play::play_turns;

@@ -168,8 +168,13 @@ impl Rows {
         ensures table { λ r. ⌜ tableIn r ≡ emptyTable ⌝ }
         ensures kept { λ r. ⌜ GoodRows r ⌝ }
     {
-        let row = Row { address: 0, versions: [Version::none(); 4] };
-        Rows { sets: [[row; 4]; 16] }
+        let row = Row {
+            address: 0,
+            versions: [Version::none(); 4],
+        };
+        Rows {
+            sets: [[row; 4]; 16],
+        }
     }
 
     // p's version of a.

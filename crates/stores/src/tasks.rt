@@ -27,7 +27,10 @@ impl Tasks {
         ensures table { λ r. ⌜ tableOf r ≡ emptyTable ⌝ }
         ensures kept { λ r. ⌜ GoodTasks r ⌝ }
     {
-        Tasks { order: Order::new(), rows: Rows::new() }
+        Tasks {
+            order: Order::new(),
+            rows: Rows::new(),
+        }
     }
 
     // How many tasks are active.

@@ -17,8 +17,8 @@ returns-then-same-rows c =
     let rs = c .args .rows .now in
     subst (RowFor rs (c .args .p) (c .args .a)) (sym (c .address-place-same .ensures))
     (row-same rs (c .args .p) (c .args .a) (c .pre .0) (c .pre .1) (c .pre .2)
-      (subst (λ (j : ℕ). length rs ≤ j) (c .held-place-held .ensures) (c .if-held-rows .left))
-      (subst (λ (j : ℕ). j < length rs) (c .address-place-same .ensures) (c .if-same-rows .taken)))
+    (subst (λ (j : ℕ). length rs ≤ j) (c .held-place-held .ensures) (c .if-held-rows .left))
+    (subst (λ (j : ℕ). j < length rs) (c .address-place-same .ensures) (c .if-same-rows .taken)))
 
 pub returns : need.returns
 returns c =

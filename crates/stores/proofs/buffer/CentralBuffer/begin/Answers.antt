@@ -17,7 +17,7 @@ returns-then-p-ge4 g c =
     let b = c .args .self .now in
     let ws = g .M·Memory .words (b .memory) in
     let law = refused-turn (plainIn (g .M·Memory .words) b) (Start (c .args .p)) NoProcessor
-      (start-low ws (processorsOf (b .tasks)) (tableOf (b .tasks)) (c .pre .tasks .order .apart) (c .pre .fits) (c .args .p) (omega arith)) in
+    (start-low ws (processorsOf (b .tasks)) (tableOf (b .tasks)) (c .pre .tasks .order .apart) (c .pre .fits) (c .args .p) (omega arith)) in
     record { answer = law .0; after = law .1; beside = refl; kept = c .pre }
 
 pub returns-then-is-some : need.returns-then-is-some
@@ -25,8 +25,8 @@ returns-then-is-some g c =
     let b = c .args .self .now in
     let ws = g .M·Memory .words (b .memory) in
     let law = refused-turn (plainIn (g .M·Memory .words) b) (Start (c .args .p)) TaskActive
-      (start-busy ws (processorsOf (b .tasks)) (tableOf (b .tasks)) (c .pre .tasks .order .apart) (c .pre .fits) (c .args .p) (omega arith)
-        (ap isSome (sym (c .place .ensures)) ∙ (sym (c .is-some .ensures) ∙ c .if-is-some .taken))) in
+    (start-busy ws (processorsOf (b .tasks)) (tableOf (b .tasks)) (c .pre .tasks .order .apart) (c .pre .fits) (c .args .p) (omega arith)
+    (ap isSome (sym (c .place .ensures)) ∙ (sym (c .is-some .ensures) ∙ c .if-is-some .taken))) in
     record { answer = law .0; after = law .1; beside = refl; kept = c .pre }
 
 pub returns : need.returns
@@ -36,7 +36,7 @@ returns g c =
     let ps = processorsOf (b .tasks) in
     let none = none-from (placeIn ps (c .args .p)) (ap isSome (sym (c .place .ensures)) ∙ (sym (c .is-some .ensures) ∙ c .if-is-some .left)) in
     let law = serve-start ws ps (tableOf (b .tasks)) (c .pre .tasks .order .apart) (c .pre .fits) (c .args .p) (processorsOf (c .append .last .self)) (tableOf (c .append .last .self)) (omega arith) none
-      (c .append .ensures .order) (c .append .ensures .table) in
+    (c .append .ensures .order) (c .append .ensures .table) in
     record {
       answer = ap Ok (c .len-active .ensures .value) ∙ law .answer;
       after = law .after;

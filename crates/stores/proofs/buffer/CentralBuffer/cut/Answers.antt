@@ -39,5 +39,5 @@ returns g c =
     let ws = g .M·Memory .words (b .memory) in
     let ps = processorsOf (b .tasks) in
     let law = serve-squash ws ps (tableOf (b .tasks)) (c .pre .tasks .order .apart) (c .pre .fits) (c .args .p) (c .in-Continue-k .k) _ _ _
-      (c .in-Continue-k .ensures tt) (ap (λ (n : ℕ). n - c .in-Continue-k .k) (c .len-active .ensures .value)) (c .cut .ensures .order) (c .cut .ensures .table) in
+    (c .in-Continue-k .ensures tt) (ap (λ (n : ℕ). n - c .in-Continue-k .k) (c .len-active .ensures .value)) (c .cut .ensures .order) (c .cut .ensures .table) in
     record { answer = law .answer; after = law .after; beside = refl; kept = record { memory = c .pre .memory; tasks = c .cut .ensures .kept; fits = law .fits } }

@@ -37,10 +37,12 @@ put-requires g c κs =
     let b = c .args .self .now in
     let ws = g .M·Memory .words (b .memory) in
     let y = ok-access (length ws) (processorsOf (b .tasks)) (tableOf (b .tasks)) (c .args .p) (c .args .a) (c .in-Continue-k .k) (c .in-Continue-k .ensures tt) in
-    let same = sym (c .seen .ensures .tasks) in
-    (subst GoodTasks same (c .pre .tasks), y .1,
-    subst (λ (t : Tasks). (x : ℕ) → isHeld (tableOf t (c .args .p) x) ≡ true → x % 16 ≡ c .args .a % 16 → x ≡ c .args .a) same
-      (class-free (length ws) (processorsOf (b .tasks)) (tableOf (b .tasks)) (c .args .p) (c .args .a) (c .pre .fits) (y .3)))
+    let same = sym (c .seen .ensures .tasks) in (
+      subst GoodTasks same (c .pre .tasks),
+      y .1,
+      subst (λ (t : Tasks). (x : ℕ) → isHeld (tableOf t (c .args .p) x) ≡ true → x % 16 ≡ c .args .a % 16 → x ≡ c .args .a) same
+          (class-free (length ws) (processorsOf (b .tasks)) (tableOf (b .tasks)) (c .args .p) (c .args .a) (c .pre .fits) (y .3)),
+    )
 
 pub returns : need.returns
 returns g c =
@@ -49,10 +51,10 @@ returns g c =
     let ps = processorsOf (b .tasks) in
     let same = c .seen .ensures .tasks in
     let law = serve-load ws ps (tableOf (b .tasks)) (c .pre .tasks .order .apart) (c .pre .fits) (c .args .p) (c .args .a) (c .in-Continue-k .k) (c .in-Continue-w .w)
-      (g .M·Memory .words (c .seen .last .self .memory)) (processorsOf (c .put .last .self)) (tableOf (c .put .last .self)) (c .in-Continue-k .ensures tt)
-      (ok-value (c .in-Continue-w .w) _ (c .in-Continue-w .ensures tt .answer)) (c .seen .ensures .words) (c .put .ensures .order ∙ ap processorsOf same)
-      (load-version (tableOf (b .tasks)) (tableOf (c .seen .last .self .tasks)) (c .args .p) (c .args .a) (c .version-version .result) (c .with-load .result) (tableOf (c .put .last .self))
-        (ap tableOf same) (c .version-version .ensures) (c .with-load .ensures) (c .put .ensures .table)) in
+    (g .M·Memory .words (c .seen .last .self .memory)) (processorsOf (c .put .last .self)) (tableOf (c .put .last .self)) (c .in-Continue-k .ensures tt)
+    (ok-value (c .in-Continue-w .w) _ (c .in-Continue-w .ensures tt .answer)) (c .seen .ensures .words) (c .put .ensures .order ∙ ap processorsOf same)
+    (load-version (tableOf (b .tasks)) (tableOf (c .seen .last .self .tasks)) (c .args .p) (c .args .a) (c .version-version .result) (c .with-load .result) (tableOf (c .put .last .self))
+    (ap tableOf same) (c .version-version .ensures) (c .with-load .ensures) (c .put .ensures .table)) in
     record {
       answer = law .answer;
       after = law .after;

@@ -37,12 +37,12 @@ returns g c =
     let same = c .write-own-wrote .ensures .tasks in
     let own : c .version-own .result .own ≡ table (c .args .p) (c .args .a) .own = ap (λ (v : Version). v .own) (c .version-own .ensures) in
     let law = serve-replace ws ps table (c .pre .tasks .order .apart) (c .pre .fits) (c .args .p) (c .args .a) (c .in-Continue--k .-k) (c .write-own-wrote .result)
-      (g .M·Memory .words (c .write-own-wrote .last .self .memory)) (processorsOf (c .put .last .self)) (tableOf (c .put .last .self)) (c .in-Continue--k .ensures tt)
-      (c .write-own-wrote .ensures .count ∙ ap (λ (o : Option ℕ). cond (isSome o) 1 0) own)
-      (c .write-own-wrote .ensures .words ∙ ap (λ (o : Option ℕ). writtenTo o (c .args .a) ws) own)
-      (c .put .ensures .order ∙ ap processorsOf same)
-      (c .put .ensures .table ∙ (ap (withVersion (tableOf (c .write-own-wrote .last .self .tasks)) (c .args .p) (c .args .a)) (c .none .ensures)
-        ∙ ap (λ (t : Table). withVersion t (c .args .p) (c .args .a) noVersion) (ap tableOf same))) in
+    (g .M·Memory .words (c .write-own-wrote .last .self .memory)) (processorsOf (c .put .last .self)) (tableOf (c .put .last .self)) (c .in-Continue--k .ensures tt)
+    (c .write-own-wrote .ensures .count ∙ ap (λ (o : Option ℕ). cond (isSome o) 1 0) own)
+    (c .write-own-wrote .ensures .words ∙ ap (λ (o : Option ℕ). writtenTo o (c .args .a) ws) own)
+    (c .put .ensures .order ∙ ap processorsOf same)
+    (c .put .ensures .table ∙ (ap (withVersion (tableOf (c .write-own-wrote .last .self .tasks)) (c .args .p) (c .args .a)) (c .none .ensures)
+    ∙ ap (λ (t : Table). withVersion t (c .args .p) (c .args .a) noVersion) (ap tableOf same))) in
     record {
       answer = law .answer;
       after = law .after;

@@ -17,6 +17,6 @@ returns g c =
         memory = c .pre;
         tasks = c .new .ensures .kept;
         fits = subst (λ (ps : List ℕ). Fitting (length ws) ps (tableOf (c .new .result))) (sym (c .new .ensures .order))
-          (subst (Fitting (length ws) []) (sym (c .new .ensures .table)) (fitting-empty (length ws)));
+            (subst (Fitting (length ws) []) (sym (c .new .ensures .table)) (fitting-empty (length ws)));
       };
     }

@@ -46,11 +46,13 @@ put-requires g c κs =
     let b = c .args .self .now in
     let ps = processorsOf (b .tasks) in
     let ws = g .M·Memory .words (b .memory) in
-    let y = ok-access (length ws) ps (tableOf (b .tasks)) (c .args .p) (c .args .a) (c .in-Continue-k .k) (c .in-Continue-k .ensures tt) in
-    (c .cut .ensures .kept, y .1,
-    subst (λ (t : Table). (x : ℕ) → isHeld (t (c .args .p) x) ≡ true → x % 16 ≡ c .args .a % 16 → x ≡ c .args .a) (sym (c .cut .ensures .table))
-      (λ x held class. class-free (length ws) ps (tableOf (b .tasks)) (c .args .p) (c .args .a) (c .pre .fits) (y .3) x
-        (held-without (tableOf (b .tasks)) (drop (c .len-active .result - c .squashed-hit .result) ps) (c .args .p) x held) class))
+    let y = ok-access (length ws) ps (tableOf (b .tasks)) (c .args .p) (c .args .a) (c .in-Continue-k .k) (c .in-Continue-k .ensures tt) in (
+      c .cut .ensures .kept,
+      y .1,
+      subst (λ (t : Table). (x : ℕ) → isHeld (t (c .args .p) x) ≡ true → x % 16 ≡ c .args .a % 16 → x ≡ c .args .a) (sym (c .cut .ensures .table))
+          (λ x held class. class-free (length ws) ps (tableOf (b .tasks)) (c .args .p) (c .args .a) (c .pre .fits) (y .3) x
+          (held-without (tableOf (b .tasks)) (drop (c .len-active .result - c .squashed-hit .result) ps) (c .args .p) x held) class),
+    )
 
 pub cast-result : need.cast-result
 cast-result g c =
@@ -69,11 +71,11 @@ returns g c =
     let hit = hit-is table ps (c .in-Continue-k .k) (c .args .a) (c .squashed-hit .result) (c .squashed-hit .ensures) in
     let left : c .len-active .result - c .squashed-hit .result ≡ length ps - c .squashed-hit .result = ap (λ (n : ℕ). n - c .squashed-hit .result) (c .len-active .ensures .value) in
     let law = serve-store ws ps table (c .pre .tasks .order .apart) (c .pre .fits) (c .args .p) (c .args .a) (c .args .w) (c .in-Continue-k .k) (c .squashed-hit .result)
-      (processorsOf (c .put .last .self)) (tableOf (c .cut .last .self)) (tableOf (c .put .last .self)) (c .in-Continue-k .ensures tt) hit
-      (c .put .ensures .order ∙ (c .cut .ensures .order ∙ ap (λ (n : ℕ). take n ps) left))
-      (c .cut .ensures .table ∙ ap (λ (n : ℕ). withoutAll table (drop n ps)) left)
-      (store-version (tableOf (c .cut .last .self)) (c .args .p) (c .args .a) (c .args .w) (c .version-version .result) (c .with-store .result) (tableOf (c .put .last .self))
-        (c .version-version .ensures) (c .with-store .ensures) (c .put .ensures .table)) in
+    (processorsOf (c .put .last .self)) (tableOf (c .cut .last .self)) (tableOf (c .put .last .self)) (c .in-Continue-k .ensures tt) hit
+    (c .put .ensures .order ∙ (c .cut .ensures .order ∙ ap (λ (n : ℕ). take n ps) left))
+    (c .cut .ensures .table ∙ ap (λ (n : ℕ). withoutAll table (drop n ps)) left)
+    (store-version (tableOf (c .cut .last .self)) (c .args .p) (c .args .a) (c .args .w) (c .version-version .result) (c .with-store .result) (tableOf (c .put .last .self))
+    (c .version-version .ensures) (c .with-store .ensures) (c .put .ensures .table)) in
     record {
       answer = law .answer;
       after = law .after;

@@ -32,7 +32,7 @@ returns-in-Continue-read g c =
     let w = getD ws (c .args .a) 0 in
     record {
       answer = ap Ok (read-inside ws (c .args .a) (c .in-Continue-read .field-0) (c .pre .2) (c .in-Continue-read .ensures tt .answer)
-        ∙ (ap (λ (o : Option ℕ). valueOr o w) (c .in-None .ensures tt) ∙ sym (seen-nearest vs w)));
+          ∙ (ap (λ (o : Option ℕ). valueOr o w) (c .in-None .ensures tt) ∙ sym (seen-nearest vs w)));
       words = c .read .ensures .after;
       tasks = refl;
       beside = c .read .ensures .beside;

@@ -14,5 +14,5 @@ row-for-j-requires c κs =
 pub returns : need.returns
 returns c =
     let law = put-table (c .args .self .now) _ (c .row-for-j .result) (c .args .p) (c .args .a) (c .args .v) (c .pre .0) (c .pre .1) (c .row-for-j .ensures)
-      (ap (λ (rs : List Row). set (c .args .self .now .sets) (c .args .a % 16) rs) (c .put-row .ensures)) in
+    (ap (λ (rs : List Row). set (c .args .self .now .sets) (c .args .a % 16) rs) (c .put-row .ensures)) in
     record { table = law .0; kept = law .1 }

@@ -14,11 +14,12 @@ loop-i-holds c = (refl, c .pre .0 .rows, cut-none (tableOf (c .args .self .now))
 
 pub loop-i-again : need.loop-i-again
 loop-i-again c =
-    let t = c .args .self .now in
-    (c .loop-i .inv .0,
-    c .clear .ensures .kept,
-    cut-step (tableOf t) (tableOf (c .loop-i .self)) (tableIn (c .clear .last .self)) (processorsOf t) (c .args .k) (c .loop-i .i) (c .at-p .result) (omega arith) (omega (arith, c .len-n .ensures .value))
-    (c .at-p .ensures .value ∙ ap (λ (o : Order). getD (processors o) (c .loop-i .i) 0) (c .loop-i .inv .0)) (c .loop-i .inv .2) (c .clear .ensures .table))
+    let t = c .args .self .now in (
+      c .loop-i .inv .0,
+      c .clear .ensures .kept,
+      cut-step (tableOf t) (tableOf (c .loop-i .self)) (tableIn (c .clear .last .self)) (processorsOf t) (c .args .k) (c .loop-i .i) (c .at-p .result) (omega arith) (omega (arith, c .len-n .ensures .value))
+          (c .at-p .ensures .value ∙ ap (λ (o : Order). getD (processors o) (c .loop-i .i) 0) (c .loop-i .inv .0)) (c .loop-i .inv .2) (c .clear .ensures .table),
+    )
 
 pub returns : need.returns
 returns c =

@@ -16,8 +16,8 @@ loop-i-again c =
     let f : ℕ → Version = λ q. tableOf t q (c .args .a) in
     let inside : c .loop-i .i < length ps = omega (arith, c .pre .1) in
     let own : c .version-own .result .own ≡ f (getD ps (c .loop-i .i) 0) .own =
-      ap (λ (v : Version). v .own) (c .version-own .ensures ∙ ap f (c .at .ensures .value)) in
+    ap (λ (v : Version). v .own) (c .version-own .ensures ∙ ap f (c .at .ensures .value)) in
     elim (c .if-is-some .came) [
-      then-is-some way ↦ nearest-own f ps (c .loop-i .i) inside (c .loop-i .found) (c .version-own .result .own) (c .if-is-some .found) (c .loop-i .inv) own (sym (c .is-some .ensures) ∙ way .if-is-some .taken) (way .found-is)
-    | else-is-some way ↦ nearest-earlier f ps (c .loop-i .i) inside (c .loop-i .found) (c .version-own .result .own) (c .if-is-some .found) (c .loop-i .inv) own (sym (c .is-some .ensures) ∙ way .if-is-some .left) (way .found-is)
+      | then-is-some way ↦ nearest-own f ps (c .loop-i .i) inside (c .loop-i .found) (c .version-own .result .own) (c .if-is-some .found) (c .loop-i .inv) own (sym (c .is-some .ensures) ∙ way .if-is-some .taken) (way .found-is)
+      | else-is-some way ↦ nearest-earlier f ps (c .loop-i .i) inside (c .loop-i .found) (c .version-own .result .own) (c .if-is-some .found) (c .loop-i .inv) own (sym (c .is-some .ensures) ∙ way .if-is-some .left) (way .found-is)
     ]
