@@ -157,10 +157,11 @@ class Store:
 
     def settle(self, task):
         for a, w in task.own.items():
-            self.memory[a] = w
+            if a < len(self.memory):
+                self.memory[a] = w
 
     def count(self, task):
-        return len(task.own)
+        return sum(a < len(self.memory) for a in task.own)
 
     def replace(self, p, a):
         task = self.order[self.place(p)]
@@ -249,11 +250,11 @@ def must_go(book, p, a):
 # Each law, as what breaks it in words, or None.
 
 def breaks_reads(book, words):
-    words = list(words)
+    words = dict(enumerate(words))
     for e in book.entries:
         for x in e.accesses:
-            if x[0] == LOAD and x[2] != words[x[1]]:
-                return f"processor {e.by} loaded {x[2]}, the run gives {words[x[1]]}"
+            if x[0] == LOAD and x[2] != words.get(x[1], 0):
+                return f"processor {e.by} loaded {x[2]}, the run gives {words.get(x[1], 0)}"
             if x[0] == STORE:
                 words[x[1]] = x[2]
     return None
@@ -263,7 +264,7 @@ def breaks_words(book, words, memory):
     due = run([e for e in book.entries if e.committed], words)
     for e in book.active()[:1]:
         for i, x in enumerate(e.accesses):
-            if x[0] == STORE and (REPLACE, x[1]) in e.accesses[i:]:
+            if x[0] == STORE and x[1] < len(due) and (REPLACE, x[1]) in e.accesses[i:]:
                 due[x[1]] = x[2]
     for a, (got, w) in enumerate(zip(memory, due)):
         if got != w:
@@ -328,15 +329,16 @@ WORKED = [
     ("replaced-mark-is-gone", [L(0, 5), R(0, 5), R(0, 5)], [0, 0, -8]),
 ]
 
-# runs that are no theorem of the specs today, for the machines that nothing refuses
+# Runs that are no theorem of the specs today, for the machines that nothing refuses. Those of refusals give each to
+# every kind of turn that can have it, while the conditions of the later ones hold as well.
 PROPOSED = [
-    ("processor-comes-first", [L(4, 64), (START, 4)], [-1, -1]),
+    ("processor-comes-first", [(START, 4), L(4, 64), S(4, 64, 7), (SQUASH, 4), (COMMIT, 4), R(4, 64)], [-1] * 6),
     ("one-task-a-processor", [(START, 0)], [-2]),
-    ("task-before-address", [(COMMIT, 0), L(0, 64), (COMMIT, 0)], [0, -3, -3]),
-    ("address-before-class", [L(0, 5), L(0, 69)], [0, -4]),
-    ("address-before-head", [R(1, 64), R(1, 5)], [-4, -6]),
-    ("classes-are-sixteen", [L(1, 5), L(1, 13), L(1, 6), L(2, 21), S(1, 21, 7)], [0, 0, 0, 0, -5]),
-    ("own-word-holds-class", [S(1, 5, 7), L(1, 21), S(1, 21, 7)], [0, -5, -5]),
+    ("task-comes-next", [(COMMIT, 0), L(0, 64), S(0, 64, 7), (SQUASH, 0), (COMMIT, 0), R(0, 64)], [0] + [-3] * 5),
+    ("address-comes-next", [L(1, 5), L(1, 69), S(1, 69, 7), R(1, 69)], [0, -4, -4, -4]),
+    ("sixteen-classes", [L(1, 5), L(1, 13), L(2, 21), L(1, 5), S(1, 21, 7)], [0, 0, 0, 0, -5]),
+    ("own-word-takes-class", [S(1, 5, 7), S(1, 5, 8), L(1, 21)], [0, 0, -5]),
+    ("not-head-before-not-held", [R(1, 5)], [-6]),
     ("commit-counts-own-words", [L(0, 5), S(0, 6, 7), S(0, 8, 9), (COMMIT, 0)], [0, 0, 0, 2]),
 ]
 
@@ -597,6 +599,7 @@ wrong("refusal 2 is never given", "nowhere")(without(2))
 
 
 wrong("refusal 3 is never given", "`accepted-together` (Turning), in shape alone")(without(3))
+wrong("refusal 4 is not given to a store", "nowhere")(without(4, [STORE]))
 wrong("refusal 8 is never given", "nowhere")(without(8))
 wrong("refusal 3 goes before refusal 1", "`accepted-together` (Turning), in shape alone")(ordered(3, 1, 2, 4, 5, 6, 7, 8))
 wrong("refusal 5 goes before refusal 4", "`accepted-together` (Turning), in shape alone")(ordered(1, 2, 3, 5, 4, 6, 7, 8))
