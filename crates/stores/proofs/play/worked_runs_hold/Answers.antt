@@ -16,4 +16,12 @@ returns c = record {
   head-rules = refl;
   restart-after-commit = refl;
   replaced-mark-is-gone = refl;
+  processor-comes-first = refl;
+  one-task-a-processor = refl;
+  task-comes-next = refl;
+  address-comes-next = refl;
+  sixteen-classes = refl;
+  own-word-takes-class = refl;
+  not-head-before-not-held = refl;
+  commit-counts-own-words = refl;
 }
