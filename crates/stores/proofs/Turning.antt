@@ -97,10 +97,6 @@ spot ws b s p i e =
       plain-here = f .passes;
     }
 
--- the active task in each test
-active : (t : Bool) → not t ≡ false → t ≡ true
-active t e = not-false t e
-
 -- p's task of a list that has it
 pub taskOn-at : (p : ℕ) (pre : List Task) (t : Task) (post : List Task) → any (isOn p) pre ≡ false → isOn p t ≡ true → taskOn p (pre ++ t ∷ post) ≡ t
 taskOn-at p [] t post none here = rw here

@@ -1,5 +1,5 @@
 -- The plain store of versions: what every version store does.
-use Prim.Native.Nat.{ℕ, suc, _%_}
+use Prim.Native.Nat.{ℕ, suc, _%_, _<_}
 use mathlib.Core.Bool.{Bool, false, not, cond, _&&_}
 use mathlib.Core.List.{List, [], _∷_, _++_, map}
 use lib.Dec.{eqb, leb, ltb}
@@ -14,6 +14,7 @@ use Rattle.stores.specs.declared.refusal.Refusal.{Refusal}
 use Rattle.stores.specs.declared.refusal.Refusal.the-variants.{NoProcessor, TaskActive, NoTask, NoAddress, ClassTaken, NotHead, IsHead, NotHeld}
 use Rattle.stores.specs.declared.turn.Turn.{Turn}
 use Rattle.stores.specs.declared.turn.Turn.the-variants.{Start, Load, Store, Squash, Commit, Replace}
+use Rattle.stores.specs.Refusals.{refusalNumber}
 use Rattle.stores.specs.Cuts.{any, before, upTo, past, changed, butLast, anyBelow}
 use Rattle.stores.specs.declared.version.Version.{Version}
 use Rattle.stores.specs.Versions.{noVersion, isOwn, isHeld, withLoad, withStore, laidOver, seenBy, squashedBy}
@@ -99,6 +100,11 @@ conditions s (Replace p a) =
 abbrev pub firstOf : List (Bool × Refusal) → Option Refusal
 firstOf [] = None
 firstOf (c ∷ cs) = cond (c .0) (Some (c .1)) (firstOf cs)
+
+-- the numbers of a list of conditions rise, from above n
+abbrev pub Rising : ℕ → List (Bool × Refusal) → Type 0
+Rising n [] = Unit {0}
+Rising n (c ∷ cs) = (n < refusalNumber (c .1)) × Rising (refusalNumber (c .1)) cs
 
 abbrev pub refusalOf : Plain → Turn → Option Refusal
 refusalOf s t = firstOf (conditions s t)

@@ -20,7 +20,7 @@ pub record Event : Type 0 where
   pub turn : Turn
   pub answer : Result ℕ Refusal
 
--- the book after some events, from an empty one
+-- a book after some events; the book of some events, from an empty one
 abbrev pub fedAll : Book → List Event → Book
 fedAll b [] = b
 fedAll b (e ∷ es) = fedAll (fedOne b (e .turn) (e .answer)) es
@@ -56,8 +56,8 @@ abbrev pub Leads : Plain → List Event → Plain → Type 0
 Leads s [] t = s ≡ t
 Leads s (e ∷ es) t = (e .answer ≡ answerOf s (e .turn)) × Leads (stateAfter s (e .turn)) es t
 
--- the book mirrors the plain store: its active tasks are the store's, and each task sees at each address the word
--- that the run leaves there after that task
+-- the book mirrors the plain store: its active tasks are on the store's processors, in the same order, and each task
+-- of the store sees at each address the word that the run leaves there after the book's task
 pub record Mirrors (ws : List ℕ) (b : Book) (s : Plain) : Type 0 where
   pub tasks : map (λ t. t .on) (s .order) ≡ map (λ e. e .by) (activeOf b)
   pub sees : (k : ℕ) → k < length (s .order) → (a : ℕ) → a < length ws

@@ -15,6 +15,7 @@ pub use buffer::CentralBufferStore;
 pub use play::AnswersFull;
 pub use play::play_turn;
 pub use play::play_turns;
+pub use play::refusals_rise;
 pub use play::worked_runs_hold;
 pub use refusal::Answer;
 pub use refusal::Refusal;

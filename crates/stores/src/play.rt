@@ -3,7 +3,7 @@ ghost use Prim.Native.Nat.{ℕ, min, _≤_};
 ghost use mathlib.Core.List.{List, [], _∷_, _++_};
 ghost use mathlib.Core.Path.{_≡_};
 ghost use lib.ListN.{length, take, drop};
-ghost use Rattle.stores.specs.Plain.{answerOf, stateAfter, answersOf, stateAfterAll};
+ghost use Rattle.stores.specs.Plain.{Plain, conditions, Rising, answerOf, stateAfter, answersOf, stateAfterAll};
 ghost use Rattle.stores.specs.Played.{playAnswer, turnsPlayed};
 ghost use Rattle.stores.specs.Runs.{WorkedRuns};
 ghost use Rattle.stores.specs.Sequential.{ReadsOn, eventOf, paired};
@@ -69,4 +69,9 @@ fn play_first<S: VersionStore>(store: &mut S, turns: &[Turn], answers: &mut [Ans
 // The worked runs hold of the plain store.
 pub fn worked_runs_hold()
     ensures { λ _. ⌜ WorkedRuns ⌝ }
+{}
+
+// The conditions of every turn are checked in rising order of their numbers.
+pub fn refusals_rise()
+    ensures { λ _. ⌜ ((s : Plain) (t : Turn) → Rising 0 (conditions s t)) ⌝ }
 {}

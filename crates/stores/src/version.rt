@@ -3,7 +3,8 @@ ghost use Prim.Native.Nat.{ℕ};
 ghost use mathlib.Core.Path.{_≡_};
 ghost use Rattle.stores.specs.Versions.{noVersion, isHeld, withLoad, withStore};
 
-// The mark says that the task loaded here before it stored here; the own word is what it stored last.
+// The mark says that the task has loaded here, since it last dropped the address, while it had no own word here; the own
+// word is what it stored last.
 #[derive(Clone, Copy)]
 pub struct Version {
     pub mark: bool,
