@@ -1,0 +1,11 @@
+// Examples of the memories of the crate `memory`, each with an answer worked out by hand.
+#[cfg(test)]
+mod bytes;
+#[cfg(test)]
+mod clients;
+#[cfg(test)]
+mod openings;
+#[cfg(test)]
+mod outside;
+#[cfg(test)]
+mod refusals;
