@@ -2,6 +2,8 @@
 #[cfg(test)]
 mod bytes;
 #[cfg(test)]
+mod caches;
+#[cfg(test)]
 mod clients;
 #[cfg(test)]
 mod openings;
@@ -9,3 +11,5 @@ mod openings;
 mod outside;
 #[cfg(test)]
 mod refusals;
+#[cfg(test)]
+mod traffic;
