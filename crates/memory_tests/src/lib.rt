@@ -6,6 +6,8 @@ mod caches;
 #[cfg(test)]
 mod clients;
 #[cfg(test)]
+mod letting_go;
+#[cfg(test)]
 mod openings;
 #[cfg(test)]
 mod outside;
