@@ -19,7 +19,6 @@ pub use error::MemoryErrorDisplay;
 pub use error::MemoryErrorError;
 pub use error::MemoryErrorPartialEq;
 pub use interface::Memory;
-pub use second::Line;
 pub use second::SecondLevel;
 pub use second::SecondLevelWords;
 pub use sums::checksum;
