@@ -25,4 +25,3 @@ pub use refusal::RefusalFromMemory;
 pub use refusal::RefusalPartialEq;
 pub use store::VersionStore;
 pub use turn::Turn;
-pub use version::Version;
