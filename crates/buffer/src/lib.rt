@@ -1,4 +1,6 @@
 // The central buffer: one store of versions for all four processors.
+#![tactic(auto)]
+
 mod buffer;
 mod rows;
 mod tasks;

@@ -1,5 +1,7 @@
 // Plays a list of turns on the central buffer, over a second-level cache over byte memory, and prints each answer, the
 // number of active tasks, and the memory's words that are not 0 once everything is taken apart.
+#![tactic(auto)]
+
 ghost use Rattle.std.specs.Prelude.{◌≡◌, ◌/◌, length, Ok};
 ghost use Rattle.memory.specs.Words.{open_answer};
 

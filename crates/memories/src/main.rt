@@ -1,5 +1,7 @@
 // Carries a memory dump through every kind of memory and reports: from byte memory through a second-level cache into
 // word memory, from there through two caches into another byte memory, and all of it taken apart again and compared.
+#![tactic(auto)]
+
 mod report;
 mod transfer;
 

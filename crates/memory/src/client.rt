@@ -7,8 +7,8 @@ use crate::interface::Memory;
 
 // Copies the words that both memories have, and gives their number.
 pub fn copy_words<F: Memory, T: Memory>(from: &mut F, to: &mut T) -> Result<u32, MemoryError>
-    requires sound { F.Memory.sound from.old }
-    requires sound_2 { T.Memory.sound to.old }
+    requires source_sound { F.Memory.sound from.old }
+    requires target_sound { T.Memory.sound to.old }
     ensures answer { result ≡ Ok (shared (F.Memory.words from.old) (T.Memory.words to.old)) }
     ensures source { F.Memory.words from.new ≡ F.Memory.words from.old }
     ensures target { T.Memory.words to.new ≡ copied (shared (F.Memory.words from.old) (T.Memory.words to.old)) (F.Memory.words from.old) (T.Memory.words to.old) }
@@ -27,8 +27,8 @@ pub fn count_differences<F: Memory, T: Memory>(
     left: &mut F,
     right: &mut T,
 ) -> Result<u32, MemoryError>
-    requires sound { F.Memory.sound left.old }
-    requires sound_2 { T.Memory.sound right.old }
+    requires left_sound { F.Memory.sound left.old }
+    requires right_sound { T.Memory.sound right.old }
     ensures answer { result ≡ Ok (differences (shared (F.Memory.words left.old) (T.Memory.words right.old)) (F.Memory.words left.old) (T.Memory.words right.old)) }
     ensures left { F.Memory.words left.new ≡ F.Memory.words left.old }
     ensures right { T.Memory.words right.new ≡ T.Memory.words right.old }
@@ -43,10 +43,10 @@ pub fn count_differences<F: Memory, T: Memory>(
 
 // Copies the first n words, which both memories have.
 fn copy_first<F: Memory, T: Memory>(from: &mut F, to: &mut T, n: u32) -> Result<(), MemoryError>
-    requires sound { F.Memory.sound from.old }
-    requires sound_2 { T.Memory.sound to.old }
-    requires n_in_bounds { n ≤ length (F.Memory.words from.old) }
-    requires n_in_bounds_2 { n ≤ length (T.Memory.words to.old) }
+    requires source_sound { F.Memory.sound from.old }
+    requires target_sound { T.Memory.sound to.old }
+    requires source_long { n ≤ length (F.Memory.words from.old) }
+    requires target_long { n ≤ length (T.Memory.words to.old) }
     ensures answer { result ≡ Ok tt }
     ensures source { F.Memory.words from.new ≡ F.Memory.words from.old }
     ensures target { T.Memory.words to.new ≡ copied n (F.Memory.words from.old) (T.Memory.words to.old) }
@@ -68,10 +68,10 @@ fn count_first<F: Memory, T: Memory>(
     right: &mut T,
     n: u32,
 ) -> Result<u32, MemoryError>
-    requires sound { F.Memory.sound left.old }
-    requires sound_2 { T.Memory.sound right.old }
-    requires n_in_bounds { n ≤ length (F.Memory.words left.old) }
-    requires n_in_bounds_2 { n ≤ length (T.Memory.words right.old) }
+    requires left_sound { F.Memory.sound left.old }
+    requires right_sound { T.Memory.sound right.old }
+    requires left_long { n ≤ length (F.Memory.words left.old) }
+    requires right_long { n ≤ length (T.Memory.words right.old) }
     ensures answer { result ≡ Ok (differences n (F.Memory.words left.old) (T.Memory.words right.old)) }
     ensures left { F.Memory.words left.new ≡ F.Memory.words left.old }
     ensures right { T.Memory.words right.new ≡ T.Memory.words right.old }

@@ -1,6 +1,8 @@
 // Memories behind one interface: a row of 1 to 4,096 words of 32 bits that is read and written by address.
 // `interface` has the trait and what it promises; `word`, `byte` and `second` are the three memories; `client` is
 // code that is written and proved once for every memory, and so is `sums`.
+#![tactic(auto)]
+
 mod byte;
 mod client;
 mod error;

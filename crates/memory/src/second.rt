@@ -79,8 +79,8 @@ impl<M: Memory> SecondLevel<M> {
 
     // Empties line number i. A changed one is written back to its own address.
     fn give_up(&mut self, i: usize)
-        requires sound_cache { SoundCache M.Memory.words M.Memory.sound self.old }
-        requires i_bound { i < 64 }
+        requires sound { SoundCache M.Memory.words M.Memory.sound self.old }
+        requires line_number { i < 64 }
         ensures cached { cached_of M.Memory.words self.new ≡ given_up (cached_of M.Memory.words self.old) i }
         ensures beside { M.Memory.spare self.new.below ≡ M.Memory.spare self.old.below }
         ensures kept { M.Memory.sound self.new.below }
@@ -135,8 +135,8 @@ impl<M: Memory> SecondLevel<M> {
     // Reads address a, which has no line, from below and takes the line for it. The word below is read first, so
     // that nothing has moved if that is refused.
     fn fetch(&mut self, a: u32) -> Result<u32, MemoryError>
-        requires sound_cache { SoundCache M.Memory.words M.Memory.sound self.old }
-        requires a_value { hit (cached_of M.Memory.words self.old) a ≡ false }
+        requires sound { SoundCache M.Memory.words M.Memory.sound self.old }
+        requires missed { hit (cached_of M.Memory.words self.old) a ≡ false }
         ensures answer { result ≡ read_answer (counted (cached_of M.Memory.words self.old)) a }
         ensures after { counted (cached_of M.Memory.words self.new) ≡ counted (cached_of M.Memory.words self.old) }
         ensures beside { M.Memory.spare self.new.below ≡ M.Memory.spare self.old.below }
@@ -151,8 +151,8 @@ impl<M: Memory> SecondLevel<M> {
 
     // Puts w into the line of address a, an address of the memory.
     fn put(&mut self, a: u32, w: u32)
-        requires sound_cache { SoundCache M.Memory.words M.Memory.sound self.old }
-        requires a_in_bounds { a < length (M.Memory.words self.old.below) }
+        requires sound { SoundCache M.Memory.words M.Memory.sound self.old }
+        requires inside { a < length (M.Memory.words self.old.below) }
         ensures after { counted (cached_of M.Memory.words self.new) ≡ slice_set (counted (cached_of M.Memory.words self.old)) a w }
         ensures beside { M.Memory.spare self.new.below ≡ M.Memory.spare self.old.below }
         ensures kept { SoundCache M.Memory.words M.Memory.sound self.new }

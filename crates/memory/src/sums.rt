@@ -20,7 +20,7 @@ pub fn checksum<M: Memory>(memory: &mut M) -> Result<u32, MemoryError>
 // The checksum of all n words.
 fn sum_words<M: Memory>(memory: &mut M, n: u32) -> Result<u32, MemoryError>
     requires sound { M.Memory.sound memory.old }
-    requires n_value { n ≡ length (M.Memory.words memory.old) }
+    requires whole { n ≡ length (M.Memory.words memory.old) }
     ensures answer { result ≡ Ok (adler32 (M.Memory.words memory.old)) }
     ensures after { M.Memory.words memory.new ≡ M.Memory.words memory.old }
     ensures beside { M.Memory.spare memory.new ≡ M.Memory.spare memory.old }

@@ -1,4 +1,6 @@
 // Examples of the memories of the crate `memory`, each with an answer worked out by hand.
+#![tactic(auto)]
+
 #[cfg(test)]
 mod bytes;
 #[cfg(test)]

@@ -1,4 +1,6 @@
 // Plays the turns of `turns.txt` on the snooping store, over 4,096 words that `image.bin` fills, and prints the listing.
+#![tactic(auto)]
+
 use files::read_start;
 use memory::WordMemory;
 use player::{RowList, listing, play_snooping};

@@ -1,5 +1,7 @@
 // What stands between files and a version store: lists over lent rows, images that fill a memory before the turns, turns
 // as text, and the faults of all three.
+#![tactic(auto)]
+
 mod fault;
 mod image;
 mod list;

@@ -1,5 +1,7 @@
 // Examples of the lists, images, turn texts, faults and listings of the crate `player`, each with an answer worked out by
 // hand.
+#![tactic(auto)]
+
 #[cfg(test)]
 mod faults;
 #[cfg(test)]

@@ -1,4 +1,6 @@
 // The snooping store: each processor has a cache of its own, and a bus keeps the caches in order.
+#![tactic(auto)]
+
 mod cache;
 mod caches;
 mod line;

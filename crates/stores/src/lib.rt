@@ -1,5 +1,7 @@
 // Version stores as users see them: the trait and its meaning (crate `versions`), the snooping store (crate `snooping`),
 // the central buffer (crate `buffer`), and that the two answer alike.
+#![tactic(auto)]
+
 mod alike;
 
 pub use alike::play_on_both;

@@ -1,5 +1,7 @@
 // What a version store means (specs/Plain.antt, and the trait in `store`), that its reading is sequential
 // (specs/Sequential.antt, on the contracts in `play`), and what stores that keep a table of versions share.
+#![tactic(auto)]
+
 mod order;
 mod play;
 mod refusal;

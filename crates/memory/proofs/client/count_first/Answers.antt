@@ -16,10 +16,10 @@ loop-a-preserved g c =
       c.read.ensures.beside ∙ c.loop-a.invariant.4,
       c.read-in-loop-a.ensures.beside ∙ c.loop-a.invariant.5,
       elim c.if-w-v.branch [
-        | then-w-v way ↦ way.differ-is ∙ count-different ws vs _ _ a c.args.n c.in-ok-w.w c.in-ok-v.v c.loop-a.differ (omega arith) c.requires.2 c.requires.3
-            c.loop-a.invariant.2 c.loop-a.invariant.3 c.in-ok-w.ensures.answer c.in-ok-v.ensures.answer c.loop-a.invariant.6 way.if-w-v.true
-        | else-w-v way ↦ way.differ-is ∙ count-equal ws vs _ _ a c.args.n c.in-ok-w.w c.in-ok-v.v c.loop-a.differ (omega arith) c.requires.2 c.requires.3
-            c.loop-a.invariant.2 c.loop-a.invariant.3 c.in-ok-w.ensures.answer c.in-ok-v.ensures.answer c.loop-a.invariant.6 way.if-w-v.false
+        | then-w-v way ↦ way.differ-is ∙ count-different ws vs _ _ a c.args.n c.in_ok-w.w c.in_ok-v.v c.loop-a.differ (omega arith) c.requires.left_long c.requires.right_long
+            c.loop-a.invariant.2 c.loop-a.invariant.3 c.in_ok-w.ensures.answer c.in_ok-v.ensures.answer c.loop-a.invariant.6 way.if-w-v.true
+        | else-w-v way ↦ way.differ-is ∙ count-equal ws vs _ _ a c.args.n c.in_ok-w.w c.in_ok-v.v c.loop-a.differ (omega arith) c.requires.left_long c.requires.right_long
+            c.loop-a.invariant.2 c.loop-a.invariant.3 c.in_ok-w.ensures.answer c.in_ok-v.ensures.answer c.loop-a.invariant.6 way.if-w-v.false
       ],
       elim c.if-w-v.branch [ then-w-v way ↦ omega (arith, way.differ-is) | else-w-v way ↦ omega (arith, way.differ-is) ],
     )

@@ -9,7 +9,7 @@ loop-a-preserved g c = (
   c.read.ensures.kept,
   c.read.ensures.after ∙ c.loop-a.invariant.1,
   c.read.ensures.beside ∙ c.loop-a.invariant.2,
-  c.add-word-sum.ensures ∙ sum_step _ _ c.loop-a.a c.in-ok-w.w c.loop-a.sum (omega arith) c.loop-a.invariant.1 c.in-ok-w.ensures.answer c.loop-a.invariant.3,
+  c.add_word-sum.ensures ∙ sum_step _ _ c.loop-a.a c.in_ok-w.w c.loop-a.sum (omega arith) c.loop-a.invariant.1 c.in_ok-w.ensures.answer c.loop-a.invariant.3,
 )
 
 pub returns : goal.returns

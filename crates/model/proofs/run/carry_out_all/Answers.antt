@@ -14,10 +14,10 @@ loop-i-preserved g c =
     let i = c.loop-i.i in
     let none : Command = record { code = 0; p = 0; a = 0; w = 0 } in
     let inside : i < length cs = omega arith in (
-      c.carry-out.ensures.kept,
-      seen_step s cs i none (m.seen c.loop-i.store) (m.seen c.carry-out.new.self) inside c.loop-i.invariant.1 c.carry-out.ensures.after,
-      replies-step s cs rs c.loop-i.replies i none (m.seen c.loop-i.store) c.carry-out.result inside (omega arith)
-          c.loop-i.invariant.1 c.carry-out.ensures.reply c.loop-i.invariant.2,
+      c.carry_out.ensures.kept,
+      seen_step s cs i none (m.seen c.loop-i.store) (m.seen c.carry_out.new.self) inside c.loop-i.invariant.1 c.carry_out.ensures.after,
+      replies-step s cs rs c.loop-i.replies i none (m.seen c.loop-i.store) c.carry_out.result inside (omega arith)
+          c.loop-i.invariant.1 c.carry_out.ensures.reply c.loop-i.invariant.2,
     )
 
 pub returns : goal.returns

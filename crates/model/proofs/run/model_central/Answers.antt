@@ -5,8 +5,8 @@ use Rattle.model.specs.Machines.{Seen}
 use Rattle.model.proofs.Running.{size-kept}
 use Rattle.model.proofs.run.model_central.Goals as goal
 
-pub copy-from-slice-requires-2 : goal.copy-from-slice-requires-2
-copy-from-slice-requires-2 c =
+pub copy_from_slice-requires-2 : goal.copy_from_slice-requires-2
+copy_from_slice-requires-2 c =
     let m : Seen = record { plain = plain_in (λ x. x.row.now) c.open-store.result; bus = None } in
-    size-kept m _ c.args.commands.now _ _ (ap memory_words c.open-store.ensures.plain ∙ (c.open.ensures.words ∙ c.copy-from-slice.ensures.after))
-    c.carry-out-all.ensures.after (c.close-2.ensures ∙ c.close.ensures.words)
+    size-kept m _ c.args.commands.now _ _ (ap memory_words c.open-store.ensures.plain ∙ (c.open.ensures.words ∙ c.copy_from_slice.ensures.after))
+    c.carry_out_all.ensures.after (c.close-2.ensures ∙ c.close.ensures.words)

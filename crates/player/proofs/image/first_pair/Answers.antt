@@ -4,5 +4,5 @@ use Rattle.player.proofs.image.first_pair.Goals as goal
 
 pub returns : goal.returns
 returns c =
-    pair-off c.args.bytes.now c.from-le-bytes-offset.result c.from-le-bytes-len.result (search rules) c.from-le-bytes-offset.ensures
-    c.from-le-bytes-len.ensures
+    pair-off c.args.bytes.now c.from_le_bytes-offset.result c.from_le_bytes-len.result (search rules) c.from_le_bytes-offset.ensures
+    c.from_le_bytes-len.ensures

@@ -5,13 +5,13 @@ use Rattle.player.proofs.Laying.{put_next}
 use Rattle.player.proofs.image.lay_pair.Goals as goal
 
 pub loop-k-init : goal.loop-k-init
-loop-k-init g c = (c.requires.0, paste_none _ c.args.pair.offset (words_of c.args.words.now), refl, omega arith, refl)
+loop-k-init g c = (c.requires.sound, paste_none _ c.args.pair.offset (words_of c.args.words.now), refl, omega arith, refl)
 
 pub loop-k-preserved : goal.loop-k-preserved
 loop-k-preserved g c =
     let step =
     put_next (g.M.Memory.words c.args.memory.now) (g.M.Memory.words c.loop-k.memory) (g.M.Memory.words c.write.new.self) _ _ _ c.args.pair.offset
-    c.args.pair.len c.loop-k.k c.in-Some.w (omega arith) c.requires.1 c.loop-k.invariant.1 c.loop-k.invariant.2 c.in-Some.ensures.0 c.write.ensures.after in (
+    c.args.pair.len c.loop-k.k c.in-Some.w (omega arith) c.requires.pair_in_bounds c.loop-k.invariant.1 c.loop-k.invariant.2 c.in-Some.ensures.0 c.write.ensures.after in (
       c.write.ensures.kept,
       step.0,
       step.1,

@@ -4,8 +4,8 @@ use Rattle.player.proofs.Numbers.{length-words_of}
 use Rattle.player.proofs.Laying.{first-inside, first_taken, first-laid, still-inside, all_laid}
 use Rattle.player.proofs.image.lay_pairs.Goals as goal
 
-pub lay-pair-rest-requires : goal.lay-pair-rest-requires
-lay-pair-rest-requires g c =
+pub lay_pair-rest-requires : goal.lay_pair-rest-requires
+lay_pair-rest-requires g c =
     let i = c.loop-i.-i in
     let more : c.args.count - i ≡ suc (c.args.count - (i + 1)) = omega arith in
     let inside = first-inside _ _ _ _ _ _ _ more c.in-Some.ensures.0 c.loop-i.invariant.3 in
@@ -19,13 +19,13 @@ loop-i-preserved g c =
     let more : c.args.count - i ≡ suc (c.args.count - (i + 1)) = omega arith in
     let inside = first-inside _ _ _ _ _ _ _ more c.in-Some.ensures.0 c.loop-i.invariant.3 in
     let taken = first_taken 0 _ _ _ _ _ _ more c.in-Some.ensures.0 in
-    let some : l ≤ length vs = omega (arith, length-words_of c.loop-i.rest.now, c.lay-pair-rest.ensures.bytes) in (
-      c.lay-pair-rest.ensures.kept,
-      first-laid 0 _ _ _ _ _ _ more c.in-Some.ensures.0 _ _ _ _ _ c.loop-i.invariant.1 c.lay-pair-rest.ensures.after c.lay-pair-rest.ensures.rest,
+    let some : l ≤ length vs = omega (arith, length-words_of c.loop-i.rest.now, c.lay_pair-rest.ensures.bytes) in (
+      c.lay_pair-rest.ensures.kept,
+      first-laid 0 _ _ _ _ _ _ more c.in-Some.ensures.0 _ _ _ _ _ c.loop-i.invariant.1 c.lay_pair-rest.ensures.after c.lay_pair-rest.ensures.rest,
       omega (arith, c.in-Some.ensures.1, c.loop-i.invariant.2),
-      still-inside _ _ vs _ l _ c.lay-pair-rest.ensures.after inside.0 some inside.1,
-      omega (arith, c.loop-i.invariant.4, taken, c.lay-pair-rest.ensures.bytes),
-      c.lay-pair-rest.ensures.beside ∙ c.loop-i.invariant.5,
+      still-inside _ _ vs _ l _ c.lay_pair-rest.ensures.after inside.0 some inside.1,
+      omega (arith, c.loop-i.invariant.4, taken, c.lay_pair-rest.ensures.bytes),
+      c.lay_pair-rest.ensures.beside ∙ c.loop-i.invariant.5,
     )
 
 pub returns : goal.returns

@@ -7,8 +7,8 @@ returns c = digits-end c.args.part.now c.loop-b.b-index c.loop-b.invariant (omeg
 
 pub loop-b-preserved : goal.loop-b-preserved
 loop-b-preserved c =
-    digits-next c.args.part.now c.loop-b.b-index c.loop-b.invariant (omega arith) (sym c.is-ascii-digit.ensures.value ∙ c.if-not-is-ascii-digit.false)
+    digits-next c.args.part.now c.loop-b.b-index c.loop-b.invariant (omega arith) (sym c.is_ascii_digit.ensures.value ∙ c.if-not-is_ascii_digit.false)
 
-pub returns-then-not-is-ascii-digit : goal.returns-then-not-is-ascii-digit
-returns-then-not-is-ascii-digit c =
-    digits-stop c.args.part.now c.loop-b.b-index c.loop-b.invariant (omega arith) (sym c.is-ascii-digit.ensures.value ∙ c.if-not-is-ascii-digit.true)
+pub returns-then-not-is_ascii_digit : goal.returns-then-not-is_ascii_digit
+returns-then-not-is_ascii_digit c =
+    digits-stop c.args.part.now c.loop-b.b-index c.loop-b.invariant (omega arith) (sym c.is_ascii_digit.ensures.value ∙ c.if-not-is_ascii_digit.true)

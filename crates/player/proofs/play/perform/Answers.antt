@@ -7,10 +7,10 @@ use Rattle.player.proofs.play.perform.Goals as goal
 pub returns : goal.returns
 returns g c =
     let m = g.S.VersionStore in
-    let e = c.play-text-outcome.ensures in
+    let e = c.play_text-outcome.ensures in
     record {
-      performed = text-performed (m.plain c.args.store) (m.plain c.play-text-outcome.new.store) (text_script (free c.args.turns.now) (free c.args.answers.now) c.args.text.now)
-          c.args.turns.now c.play-text-outcome.new.turns c.args.answers.now c.play-text-outcome.new.answers c.play-text-outcome.result (g.Below.Memory.words c.close.result)
+      performed = text-performed (m.plain c.args.store) (m.plain c.play_text-outcome.new.store) (text_script (free c.args.turns.now) (free c.args.answers.now) c.args.text.now)
+          c.args.turns.now c.play_text-outcome.new.turns c.args.answers.now c.play_text-outcome.new.answers c.play_text-outcome.result (g.Below.Memory.words c.close.result)
           e.after e.answer e.turns e.answers c.close.ensures.words e.sequential;
       within = e.within;
       beside = c.close.ensures.beside ∙ e.beside;

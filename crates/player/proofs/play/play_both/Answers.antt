@@ -3,8 +3,8 @@ use Rattle.player.proofs.play.play_both.Goals as goal
 
 pub returns : goal.returns
 returns g c =
-    let one = c.play-snooping-snooping.ensures in
-    let other = c.play-central-central.ensures in
+    let one = c.play_snooping-snooping.ensures in
+    let other = c.play_central-central.ensures in
     record {
       one = one.performed;
       other = other.performed;

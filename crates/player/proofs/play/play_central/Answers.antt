@@ -21,7 +21,7 @@ returns-in-Err g c =
     record {
       performed = subst (λ (x : List ℕ). Performed (opened (loaded_words x image)) (script_in x image text l a) l l a a (Err (Image e)) vs) (ap m.words was)
           (refused-performed (m.words c.new-loading.result.memory) image text e l a vs load.answer (ap m.words c.close.ensures ∙ load.after));
-      within = (c.requires.1, c.requires.2);
+      within = (c.requires.within_2, c.requires.within_3);
       beside = ap m.spare c.close.ensures ∙ (load.beside ∙ ap m.spare was);
       kept = subst m.sound (sym c.close.ensures) load.kept;
     }
@@ -41,9 +41,9 @@ returns g c =
     let was = c.new-loading.ensures.memory in
     record {
       performed = subst (λ (x : List ℕ). Performed (opened (loaded_words x image)) (script_in x image text l a) l l' a a' c.perform.result.1 vs) (ap m.words was)
-          (loaded-performed (plain_in m.words c.open-buffer.result) (m.words c.new-loading.result.memory) (m.words c.load.new.self.memory) image text c.in-default.field-0 l l' a a' c.perform.result.1 vs
-          load.answer c.open-buffer.ensures.plain load.after e.performed);
+          (loaded-performed (plain_in m.words c.open_buffer.result) (m.words c.new-loading.result.memory) (m.words c.load.new.self.memory) image text c.in-default.field-0 l l' a a' c.perform.result.1 vs
+          load.answer c.open_buffer.ensures.plain load.after e.performed);
       within = e.within;
-      beside = e.beside ∙ (c.open-buffer.ensures.beside ∙ (load.beside ∙ ap m.spare was));
+      beside = e.beside ∙ (c.open_buffer.ensures.beside ∙ (load.beside ∙ ap m.spare was));
       kept = e.kept;
     }

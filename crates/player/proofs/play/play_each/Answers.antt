@@ -20,11 +20,11 @@ loop-i-preserved g c =
     let l = c.loop-i.answers in
     let inv = c.loop-i.invariant in
     let inside : i < length ts = omega arith in
-    let more = answers-more s ts i (Start 0) (m.plain c.loop-i.store) c.take-turn.result inside inv.1 c.take-turn.ensures.answer in
-    let a = one-added (content l₀) (row_of l₀) (answers_of s (take i ts)) (room l) i (content l) (row_of l) c.take-turn.result
-    (length-played s ts i (omega arith)) (sym c.is-full.ensures ∙ c.if-is-full.false) inv.2.0 inv.2.1 in (
-      c.take-turn.ensures.kept,
-      state-step s ts i (Start 0) (m.plain c.loop-i.store) (m.plain c.take-turn.new.self) inside inv.1 c.take-turn.ensures.after,
+    let more = answers-more s ts i (Start 0) (m.plain c.loop-i.store) c.take_turn.result inside inv.1 c.take_turn.ensures.answer in
+    let a = one-added (content l₀) (row_of l₀) (answers_of s (take i ts)) (room l) i (content l) (row_of l) c.take_turn.result
+    (length-played s ts i (omega arith)) (sym c.is_full.ensures ∙ c.if-is_full.false) inv.2.0 inv.2.1 in (
+      c.take_turn.ensures.kept,
+      state-step s ts i (Start 0) (m.plain c.loop-i.store) (m.plain c.take_turn.new.self) inside inv.1 c.take_turn.ensures.after,
       (
         c.push.ensures.after ∙ (a.0 ∙ ap (λ (x : List (Result ℕ Refusal)). content l₀ ++ x) (sym more)),
         c.push.ensures.row ∙ (a.1 ∙ ap (λ (x : List (Result ℕ Refusal)). written (row_of l₀) (length (content l₀)) x) (sym more)),
@@ -32,11 +32,11 @@ loop-i-preserved g c =
       ),
       subst (λ (k : ℕ). i + 1 ≤ k - length (content l₀)) inv.2.2 a.2,
       c.push.ensures.within,
-      c.take-turn.ensures.beside ∙ inv.5,
+      c.take_turn.ensures.beside ∙ inv.5,
     )
 
-pub returns-then-is-full : goal.returns-then-is-full
-returns-then-is-full g c =
+pub returns-then-is_full : goal.returns-then-is_full
+returns-then-is_full g c =
     let m = g.S.VersionStore in
     let s = m.plain c.args.store.now in
     let ts = c.args.turns.now in
@@ -45,7 +45,7 @@ returns-then-is-full g c =
     let l = c.loop-i.answers in
     let inv = c.loop-i.invariant in
     let all : i ≡ free l₀ = all-added (content l₀) (answers_of s (take i ts)) (room l₀) i (content l) (length-played s ts i (omega arith))
-    (subst (λ (k : ℕ). is_full (content l) k ≡ true) inv.2.2 (sym c.is-full.ensures ∙ c.if-is-full.true)) inv.2.0 inv.3 in
+    (subst (λ (k : ℕ). is_full (content l) k ≡ true) inv.2.2 (sym c.is_full.ensures ∙ c.if-is_full.true)) inv.2.0 inv.3 in
     record {
       answer = no_place (free l₀) i (active_tasks (m.plain c.loop-i.store)) ts (omega arith) all;
       answers = (

@@ -11,16 +11,16 @@ use Rattle.player.specs.Text.{text_read, written}
 use Rattle.player.proofs.Adding.{script-refused, script-read, rest-gained, before-rest, gained-reads-on}
 use Rattle.player.proofs.play.play_text.Goals as goal
 
-pub returns-in-err-read-turns : goal.returns-in-err-read-turns
-returns-in-err-read-turns g c =
+pub returns-in_err-read_turns : goal.returns-in_err-read_turns
+returns-in_err-read_turns g c =
     let m = g.S.VersionStore in
     let s = m.plain c.args.store.now in
     let l₀ = c.args.turns.now in
     let a₀ = c.args.answers.now in
     let text = c.args.text.now in
-    let e = c.in-err-read-turns.field-0.0 in
-    let q = err_from_is_err_and c.from-residual.result c.from-residual.ensures.1 in
-    let read = c.in-err-read-turns.ensures in
+    let e = c.in_err-read_turns.field-0.0 in
+    let q = err_from_is_err_and c.from_residual.result c.from_residual.ensures.1 in
+    let read = c.in_err-read_turns.ensures in
     let k : text_script (free l₀) (free a₀) text ≡ record { read = (text_read (free l₀) text).turns; played = []; answer = Err (Text e) }
     = script-refused (free l₀) (free a₀) text (Err e) e read.answer refl in
     let none : content a₀ ≡ content a₀ ++ answers_of s (text_script (free l₀) (free a₀) text).played
@@ -40,35 +40,35 @@ returns-in-err-read-turns g c =
       );
       after = stay;
       sequential = gained-reads-on s s (text_script (free l₀) (free a₀) text).played (content a₀) (content a₀) none stay;
-      within = (read.within, c.requires.2);
+      within = (read.within, c.requires.within_3);
       beside = refl;
-      kept = c.requires.0;
+      kept = c.requires.sound;
     }
 
-pub slice-bounds-play-each-count : goal.slice-bounds-play-each-count
-slice-bounds-play-each-count g c =
-    before-rest (content c.args.turns.now) (text_read (free c.args.turns.now) c.args.text.now).turns (content c.read-turns.new.turns) c.items.result.now
-    c.len-before.result c.items.ensures c.read-turns.ensures.after c.len-before.ensures
+pub slice-bounds-play_each-count : goal.slice-bounds-play_each-count
+slice-bounds-play_each-count g c =
+    before-rest (content c.args.turns.now) (text_read (free c.args.turns.now) c.args.text.now).turns (content c.read_turns.new.turns) c.items.result.now
+    c.len-before.result c.items.ensures c.read_turns.ensures.after c.len-before.ensures
 
-pub slice-bounds-play-each-start : goal.slice-bounds-play-each-start
-slice-bounds-play-each-start g c =
-    before-rest (content c.args.turns.now) (text_read (free c.args.turns.now) c.args.text.now).turns (content c.read-turns.new.turns) c.items.result.now
-    c.len-before.result c.items.ensures c.read-turns.ensures.after c.len-before.ensures
+pub slice-bounds-play_each-start : goal.slice-bounds-play_each-start
+slice-bounds-play_each-start g c =
+    before-rest (content c.args.turns.now) (text_read (free c.args.turns.now) c.args.text.now).turns (content c.read_turns.new.turns) c.items.result.now
+    c.len-before.result c.items.ensures c.read_turns.ensures.after c.len-before.ensures
 
 pub returns : goal.returns
 returns g c =
     let m = g.S.VersionStore in
     let s = m.plain c.args.store.now in
-    let t = m.plain c.play-each.new.store in
+    let t = m.plain c.play_each.new.store in
     let l₀ = c.args.turns.now in
     let a₀ = c.args.answers.now in
-    let a = c.play-each.new.answers in
+    let a = c.play_each.new.answers in
     let text = c.args.text.now in
     let ts = (text_read (free l₀) text).turns in
-    let read = c.in-ok-read-turns.ensures in
-    let e = c.play-each.ensures in
+    let read = c.in_ok-read_turns.ensures in
+    let e = c.play_each.ensures in
     let k : text_script (free l₀) (free a₀) text ≡ record { read = ts; played = take (free a₀) ts; answer = places_answer (free a₀) ts }
-    = script-read (free l₀) (free a₀) text (Ok c.in-ok-read-turns.field-0) c.in-ok-read-turns.field-0 read.answer refl in
+    = script-read (free l₀) (free a₀) text (Ok c.in_ok-read_turns.field-0) c.in_ok-read_turns.field-0 read.answer refl in
     let new = rest-gained (content l₀) ts c.items.result.now c.len-before.result (c.items.ensures ∙ read.after) c.len-before.ensures in
     let gained : content a ≡ content a₀ ++ answers_of s (text_script (free l₀) (free a₀) text).played
     = e.answers.0 ∙ (ap (λ (x : List Turn). content a₀ ++ answers_of s (take (free a₀) x)) new ∙ ap (λ (x : Script). content a₀ ++ answers_of s x.played) (sym k)) in

@@ -9,8 +9,8 @@ use Rattle.player.proofs.Following.{after-part}
 use Rattle.player.proofs.Reading.{Begun, after-length, verb-taken, line-turn, line-stops, line-goes-on, text-ends}
 use Rattle.player.proofs.text.read_turns.Goals as goal
 
-pub read-line-requires : goal.read-line-requires
-read-line-requires c =
+pub read_line-requires : goal.read_line-requires
+read_line-requires c =
     let e = c.in-Some.ensures in (
       omega (arith, e.place, c.loop-first.invariant.3),
       ap part_length e.text ∙ (after-part c.loop-first.tokens.rest.now).2,
@@ -28,7 +28,7 @@ returns-in-Err c =
     let e = c.in-Some.ensures in
     let v = verb-taken at first.at s (word_seen first.token) e.token in
     let f = c.in-Err.ensures in
-    let d = line-stops at (room l) s (content l₀) (row_of l₀) (content l) (row_of l) (content c.read-line.new.turns) (row_of c.read-line.new.turns)
+    let d = line-stops at (room l) s (content l₀) (row_of l₀) (content l) (row_of l) (content c.read_line.new.turns) (row_of c.read_line.new.turns)
     (text_read (free l₀) c.args.text.now) (line_turn (word_seen first.token) left) c.in-Err.why v.0 (line-turn s left (word_seen first.token) v.1 e.text)
     f.answer f.after f.row c.loop-first.invariant.0 in
     record {
@@ -44,9 +44,9 @@ pub loop-first-smaller : goal.loop-first-smaller
 loop-first-smaller c =
     let s = c.loop-first.tokens.rest.now in
     let e = c.in-Some.ensures in
-    let f = c.in-default-read-line.ensures in
-    let rest : after line_end s ≡ Some c.read-line.new.tokens.rest.now = sym (after-part s).1 ∙ (ap (after line_end) (sym e.text) ∙ f.line) in
-    omega (arith, after-length line_end s c.read-line.new.tokens.rest.now rest)
+    let f = c.in-default-read_line.ensures in
+    let rest : after line_end s ≡ Some c.read_line.new.tokens.rest.now = sym (after-part s).1 ∙ (ap (after line_end) (sym e.text) ∙ f.line) in
+    omega (arith, after-length line_end s c.read_line.new.tokens.rest.now rest)
 
 pub loop-first-preserved : goal.loop-first-preserved
 loop-first-preserved c =
@@ -54,14 +54,14 @@ loop-first-preserved c =
     let at = c.loop-first.tokens.at in
     let l = c.loop-first.turns in
     let l₀ = c.args.turns.now in
-    let l' = c.read-line.new.turns in
-    let t' = c.read-line.new.tokens in
+    let l' = c.read_line.new.turns in
+    let t' = c.read_line.new.tokens in
     let first = c.in-Some.first in
     let left = c.verb.new.self.rest.now in
     let all = text_read (free l₀) c.args.text.now in
     let e = c.in-Some.ensures in
     let v = verb-taken at first.at s (word_seen first.token) e.token in
-    let f = c.in-default-read-line.ensures in
+    let f = c.in-default-read_line.ensures in
     let rest : after line_end s ≡ Some t'.rest.now = sym (after-part s).1 ∙ (ap (after line_end) (sym e.text) ∙ f.line) in
     let place : t'.at + length t'.rest.now ≡ at + length s = f.place ∙ e.place in
     let d = line-goes-on at t'.at (room l) s t'.rest.now (content l₀) (row_of l₀) (content l) (row_of l) (content l') (row_of l')

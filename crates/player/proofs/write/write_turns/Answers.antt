@@ -12,10 +12,10 @@ pub loop-turn-preserved : goal.loop-turn-preserved
 loop-turn-preserved c =
     let ts = c.args.turns.now in
     let i = c.loop-turn.turn-index in (
-      c.in-ok-push-str.ensures.bytes
-          ∙ text-more ts i (Start 0) (string_bytes c.loop-turn.text) c.as-str.result.now (omega arith) c.loop-turn.invariant.0
-          (c.as-str.ensures.value ∙ c.in-ok-line.ensures.text),
-      All-more Small ts i (Start 0) (omega arith) c.loop-turn.invariant.1 c.write-turn.ensures.small,
+      c.in_ok-push_str.ensures.bytes
+          ∙ text-more ts i (Start 0) (string_bytes c.loop-turn.text) c.as_str.result.now (omega arith) c.loop-turn.invariant.0
+          (c.as_str.ensures.value ∙ c.in_ok-line.ensures.text),
+      All-more Small ts i (Start 0) (omega arith) c.loop-turn.invariant.1 c.write_turn.ensures.small,
     )
 
 pub returns : goal.returns

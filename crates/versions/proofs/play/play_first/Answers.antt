@@ -12,11 +12,11 @@ loop-i-preserved g c =
     let rs = c.args.answers.now in
     let i = c.loop-i.i in
     let inside : i < length ts = omega arith in (
-      c.take-turn.ensures.kept,
-      state-step s ts i (Start 0) (m.plain c.loop-i.store) (m.plain c.take-turn.new.self) inside c.loop-i.invariant.1 c.take-turn.ensures.after,
-      answers-step s ts rs c.loop-i.answers i (Start 0) (m.plain c.loop-i.store) c.take-turn.result (Ok 0) inside (omega arith)
-          c.loop-i.invariant.1 c.take-turn.ensures.answer c.loop-i.invariant.2,
-      c.take-turn.ensures.beside ∙ c.loop-i.invariant.3,
+      c.take_turn.ensures.kept,
+      state-step s ts i (Start 0) (m.plain c.loop-i.store) (m.plain c.take_turn.new.self) inside c.loop-i.invariant.1 c.take_turn.ensures.after,
+      answers-step s ts rs c.loop-i.answers i (Start 0) (m.plain c.loop-i.store) c.take_turn.result (Ok 0) inside (omega arith)
+          c.loop-i.invariant.1 c.take_turn.ensures.answer c.loop-i.invariant.2,
+      c.take_turn.ensures.beside ∙ c.loop-i.invariant.3,
     )
 
 pub returns : goal.returns
@@ -33,7 +33,7 @@ returns g c =
     record {
       answers = written;
       after = state;
-      sequential = played-reads-on c.args.n s (m.plain c.loop-i.store) ts rs c.loop-i.answers c.requires.1 written state;
+      sequential = played-reads-on c.args.n s (m.plain c.loop-i.store) ts rs c.loop-i.answers c.requires.n_value written state;
       beside = c.loop-i.invariant.3;
       kept = c.loop-i.invariant.0;
     }

@@ -7,10 +7,10 @@ pub returns : goal.returns
 returns g c =
     let m = g.S.VersionStore in
     record {
-      answer = c.take-turn.ensures.answer;
-      after = c.take-turn.ensures.after;
-      sequential = reads_on (m.plain c.args.store.now) (event_of c.args.turn c.take-turn.result ∷ []) (m.plain c.take-turn.new.self)
-          (c.take-turn.ensures.answer, sym c.take-turn.ensures.after);
-      beside = c.take-turn.ensures.beside;
-      kept = c.take-turn.ensures.kept;
+      answer = c.take_turn.ensures.answer;
+      after = c.take_turn.ensures.after;
+      sequential = reads_on (m.plain c.args.store.now) (event_of c.args.turn c.take_turn.result ∷ []) (m.plain c.take_turn.new.self)
+          (c.take_turn.ensures.answer, sym c.take_turn.ensures.after);
+      beside = c.take_turn.ensures.beside;
+      kept = c.take_turn.ensures.kept;
     }

@@ -16,13 +16,13 @@ returns-then-p-ge4 g c =
     (start-low ws (processors_of b.tasks) (table_of b.tasks) c.requires.tasks.order.apart c.requires.fits c.args.p (omega arith)) in
     record { answer = law.0; after = law.1; beside = refl; kept = c.requires }
 
-pub returns-then-is-some : goal.returns-then-is-some
-returns-then-is-some g c =
+pub returns-then-is_some : goal.returns-then-is_some
+returns-then-is_some g c =
     let b = c.args.self.now in
     let ws = g.M.Memory.words b.memory in
     let law = refused-turn (plain_in g.M.Memory.words b) (Start c.args.p) TaskActive
     (start-busy ws (processors_of b.tasks) (table_of b.tasks) c.requires.tasks.order.apart c.requires.fits c.args.p (omega arith)
-    (ap is_some (sym c.place.ensures) ∙ (sym c.is-some.ensures ∙ c.if-is-some.true))) in
+    (ap is_some (sym c.place.ensures) ∙ (sym c.is_some.ensures ∙ c.if-is_some.true))) in
     record { answer = law.0; after = law.1; beside = refl; kept = c.requires }
 
 pub returns : goal.returns
@@ -30,7 +30,7 @@ returns g c =
     let b = c.args.self.now in
     let ws = g.M.Memory.words b.memory in
     let ps = processors_of b.tasks in
-    let none = none_from (place_in ps c.args.p) (ap is_some (sym c.place.ensures) ∙ (sym c.is-some.ensures ∙ c.if-is-some.false)) in
+    let none = none_from (place_in ps c.args.p) (ap is_some (sym c.place.ensures) ∙ (sym c.is_some.ensures ∙ c.if-is_some.false)) in
     let law = serve-start ws ps (table_of b.tasks) c.requires.tasks.order.apart c.requires.fits c.args.p (processors_of c.append.new.self) (table_of c.append.new.self) (omega arith) none
     c.append.ensures.order c.append.ensures.table in
     record {

@@ -9,31 +9,31 @@ use Rattle.versions.proofs.Serving.{refused-by, serve-squash}
 use Rattle.versions.proofs.Tabling.{placed}
 use Rattle.buffer.proofs.buffer.CentralBuffer.cut.Goals as goal
 
-pub returns-in-err-k : goal.returns-in-err-k
-returns-in-err-k g c =
+pub returns-in_err-k : goal.returns-in_err-k
+returns-in_err-k g c =
     let b = c.args.self.now in
     let ws = g.M.Memory.words b.memory in
-    let q = err_from_is_err_and c.from-residual.result c.from-residual.ensures.1 in
-    let law = refused-by (plain_in g.M.Memory.words b) (Squash c.args.p) c.from-residual.result c.in-err-k.field-0.0 (squash_place (processors_of b.tasks) c.args.p) (squash-agrees ws (processors_of b.tasks) (table_of b.tasks) c.args.p) c.in-err-k.ensures (q.1 ∙ ap Err q.2) in
+    let q = err_from_is_err_and c.from_residual.result c.from_residual.ensures.1 in
+    let law = refused-by (plain_in g.M.Memory.words b) (Squash c.args.p) c.from_residual.result c.in_err-k.field-0.0 (squash_place (processors_of b.tasks) c.args.p) (squash-agrees ws (processors_of b.tasks) (table_of b.tasks) c.args.p) c.in_err-k.ensures (q.1 ∙ ap Err q.2) in
     record { answer = law.0; after = law.1; beside = refl; kept = c.requires }
 
 pub cut-requires : goal.cut-requires
 cut-requires g c =
     let b = c.args.self.now in
-    let y = ok-squash (processors_of b.tasks) c.args.p c.in-ok-k.k c.in-ok-k.ensures in
-    (c.requires.tasks, omega (arith, (placed (processors_of b.tasks) c.args.p c.in-ok-k.k y.0).within))
+    let y = ok-squash (processors_of b.tasks) c.args.p c.in_ok-k.k c.in_ok-k.ensures in
+    (c.requires.tasks, omega (arith, (placed (processors_of b.tasks) c.args.p c.in_ok-k.k y.0).within))
 
 pub overflow-sub-result : goal.overflow-sub-result
 overflow-sub-result g c =
     let b = c.args.self.now in
-    let y = ok-squash (processors_of b.tasks) c.args.p c.in-ok-k.k c.in-ok-k.ensures in
-    omega (arith, (placed (processors_of b.tasks) c.args.p c.in-ok-k.k y.0).within, c.len-active.ensures.value)
+    let y = ok-squash (processors_of b.tasks) c.args.p c.in_ok-k.k c.in_ok-k.ensures in
+    omega (arith, (placed (processors_of b.tasks) c.args.p c.in_ok-k.k y.0).within, c.len-active.ensures.value)
 
 pub returns : goal.returns
 returns g c =
     let b = c.args.self.now in
     let ws = g.M.Memory.words b.memory in
     let ps = processors_of b.tasks in
-    let law = serve-squash ws ps (table_of b.tasks) c.requires.tasks.order.apart c.requires.fits c.args.p c.in-ok-k.k _ _ _
-    c.in-ok-k.ensures (ap (λ (n : ℕ). n - c.in-ok-k.k) c.len-active.ensures.value) c.cut.ensures.order c.cut.ensures.table in
+    let law = serve-squash ws ps (table_of b.tasks) c.requires.tasks.order.apart c.requires.fits c.args.p c.in_ok-k.k _ _ _
+    c.in_ok-k.ensures (ap (λ (n : ℕ). n - c.in_ok-k.k) c.len-active.ensures.value) c.cut.ensures.order c.cut.ensures.table in
     record { answer = law.answer; after = law.after; beside = refl; kept = record { memory = c.requires.memory; tasks = c.cut.ensures.kept; fits = law.fits } }

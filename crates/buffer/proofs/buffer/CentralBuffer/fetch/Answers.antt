@@ -12,26 +12,26 @@ use Rattle.versions.proofs.Serving.{refused-by, class-free, serve-load, ok-value
 use Rattle.versions.proofs.Tabling.{placed}
 use Rattle.buffer.proofs.buffer.CentralBuffer.fetch.Goals as goal
 
-pub returns-in-err-k : goal.returns-in-err-k
-returns-in-err-k g c =
+pub returns-in_err-k : goal.returns-in_err-k
+returns-in_err-k g c =
     let b = c.args.self.now in
     let ws = g.M.Memory.words b.memory in
-    let q = err_from_is_err_and c.from-residual.result c.from-residual.ensures.1 in
-    let law = refused-by (plain_in g.M.Memory.words b) (Load c.args.p c.args.a) c.from-residual.result c.in-err-k.field-0.0 (access_place (length ws) (processors_of b.tasks) (table_of b.tasks) c.args.p c.args.a) (load-agrees ws (processors_of b.tasks) (table_of b.tasks) c.args.p c.args.a) c.in-err-k.ensures (q.1 ∙ ap Err q.2) in
+    let q = err_from_is_err_and c.from_residual.result c.from_residual.ensures.1 in
+    let law = refused-by (plain_in g.M.Memory.words b) (Load c.args.p c.args.a) c.from_residual.result c.in_err-k.field-0.0 (access_place (length ws) (processors_of b.tasks) (table_of b.tasks) c.args.p c.args.a) (load-agrees ws (processors_of b.tasks) (table_of b.tasks) c.args.p c.args.a) c.in_err-k.ensures (q.1 ∙ ap Err q.2) in
     record { answer = law.0; after = law.1; beside = refl; kept = c.requires }
 
 pub seen-requires : goal.seen-requires
 seen-requires g c =
     let b = c.args.self.now in
     let ws = g.M.Memory.words b.memory in
-    let y = ok-access (length ws) (processors_of b.tasks) (table_of b.tasks) c.args.p c.args.a c.in-ok-k.k c.in-ok-k.ensures in
-    (c.requires, (placed (processors_of b.tasks) c.args.p c.in-ok-k.k y.0).within, y.2)
+    let y = ok-access (length ws) (processors_of b.tasks) (table_of b.tasks) c.args.p c.args.a c.in_ok-k.k c.in_ok-k.ensures in
+    (c.requires, (placed (processors_of b.tasks) c.args.p c.in_ok-k.k y.0).within, y.2)
 
 pub put-requires : goal.put-requires
 put-requires g c =
     let b = c.args.self.now in
     let ws = g.M.Memory.words b.memory in
-    let y = ok-access (length ws) (processors_of b.tasks) (table_of b.tasks) c.args.p c.args.a c.in-ok-k.k c.in-ok-k.ensures in
+    let y = ok-access (length ws) (processors_of b.tasks) (table_of b.tasks) c.args.p c.args.a c.in_ok-k.k c.in_ok-k.ensures in
     let same = sym c.seen.ensures.tasks in (
       subst GoodTasks same c.requires.tasks,
       y.1,
@@ -45,11 +45,11 @@ returns g c =
     let ws = g.M.Memory.words b.memory in
     let ps = processors_of b.tasks in
     let same = c.seen.ensures.tasks in
-    let law = serve-load ws ps (table_of b.tasks) c.requires.tasks.order.apart c.requires.fits c.args.p c.args.a c.in-ok-k.k c.in-ok-w.w
-    (g.M.Memory.words c.seen.new.self.memory) (processors_of c.put.new.self) (table_of c.put.new.self) c.in-ok-k.ensures
-    (ok-value c.in-ok-w.w _ c.in-ok-w.ensures.answer) c.seen.ensures.words (c.put.ensures.order ∙ ap processors_of same)
-    (load-version (table_of b.tasks) (table_of c.seen.new.self.tasks) c.args.p c.args.a c.version-version.result c.with-load.result (table_of c.put.new.self)
-    (ap table_of same) c.version-version.ensures c.with-load.ensures c.put.ensures.table) in
+    let law = serve-load ws ps (table_of b.tasks) c.requires.tasks.order.apart c.requires.fits c.args.p c.args.a c.in_ok-k.k c.in_ok-w.w
+    (g.M.Memory.words c.seen.new.self.memory) (processors_of c.put.new.self) (table_of c.put.new.self) c.in_ok-k.ensures
+    (ok-value c.in_ok-w.w _ c.in_ok-w.ensures.answer) c.seen.ensures.words (c.put.ensures.order ∙ ap processors_of same)
+    (load-version (table_of b.tasks) (table_of c.seen.new.self.tasks) c.args.p c.args.a c.version-version.result c.with_load.result (table_of c.put.new.self)
+    (ap table_of same) c.version-version.ensures c.with_load.ensures c.put.ensures.table) in
     record {
       answer = law.answer;
       after = law.after;

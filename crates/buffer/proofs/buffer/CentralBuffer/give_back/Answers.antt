@@ -13,12 +13,12 @@ use Rattle.versions.proofs.Serving.{refused-by, serve-replace}
 use Rattle.versions.proofs.Tabling.{placed}
 use Rattle.buffer.proofs.buffer.CentralBuffer.give_back.Goals as goal
 
-pub returns-in-err--k : goal.returns-in-err--k
-returns-in-err--k g c =
+pub returns-in_err--k : goal.returns-in_err--k
+returns-in_err--k g c =
     let b = c.args.self.now in
     let ws = g.M.Memory.words b.memory in
-    let q = err_from_is_err_and c.from-residual.result c.from-residual.ensures.1 in
-    let law = refused-by (plain_in g.M.Memory.words b) (Replace c.args.p c.args.a) c.from-residual.result c.in-err--k.field-0.0 (replace_place (length ws) (processors_of b.tasks) (table_of b.tasks) c.args.p c.args.a) (replace-agrees ws (processors_of b.tasks) (table_of b.tasks) c.args.p c.args.a) c.in-err--k.ensures (q.1 ∙ ap Err q.2) in
+    let q = err_from_is_err_and c.from_residual.result c.from_residual.ensures.1 in
+    let law = refused-by (plain_in g.M.Memory.words b) (Replace c.args.p c.args.a) c.from_residual.result c.in_err--k.field-0.0 (replace_place (length ws) (processors_of b.tasks) (table_of b.tasks) c.args.p c.args.a) (replace-agrees ws (processors_of b.tasks) (table_of b.tasks) c.args.p c.args.a) c.in_err--k.ensures (q.1 ∙ ap Err q.2) in
     record { answer = law.0; after = law.1; beside = refl; kept = c.requires }
 
 pub returns : goal.returns
@@ -27,18 +27,18 @@ returns g c =
     let ws = g.M.Memory.words b.memory in
     let ps = processors_of b.tasks in
     let table = table_of b.tasks in
-    let same = c.write-own-wrote.ensures.tasks in
+    let same = c.write_own-wrote.ensures.tasks in
     let own : c.version-own.result.own ≡ (table c.args.p c.args.a).own = ap (λ (v : Version). v.own) c.version-own.ensures in
-    let law = serve-replace ws ps table c.requires.tasks.order.apart c.requires.fits c.args.p c.args.a c.in-ok--k.-k c.write-own-wrote.result
-    (g.M.Memory.words c.write-own-wrote.new.self.memory) (processors_of c.put.new.self) (table_of c.put.new.self) c.in-ok--k.ensures
-    (c.write-own-wrote.ensures.count ∙ ap (λ (o : Option ℕ). cond (is_some o) 1 0) own)
-    (c.write-own-wrote.ensures.words ∙ ap (λ (o : Option ℕ). written_to o c.args.a ws) own)
+    let law = serve-replace ws ps table c.requires.tasks.order.apart c.requires.fits c.args.p c.args.a c.in_ok--k.-k c.write_own-wrote.result
+    (g.M.Memory.words c.write_own-wrote.new.self.memory) (processors_of c.put.new.self) (table_of c.put.new.self) c.in_ok--k.ensures
+    (c.write_own-wrote.ensures.count ∙ ap (λ (o : Option ℕ). cond (is_some o) 1 0) own)
+    (c.write_own-wrote.ensures.words ∙ ap (λ (o : Option ℕ). written_to o c.args.a ws) own)
     (c.put.ensures.order ∙ ap processors_of same)
-    (c.put.ensures.table ∙ (ap (with_version (table_of c.write-own-wrote.new.self.tasks) c.args.p c.args.a) c.none.ensures
+    (c.put.ensures.table ∙ (ap (with_version (table_of c.write_own-wrote.new.self.tasks) c.args.p c.args.a) c.none.ensures
     ∙ ap (λ (t : Table). with_version t c.args.p c.args.a no_version) (ap table_of same))) in
     record {
       answer = law.answer;
       after = law.after;
-      beside = c.write-own-wrote.ensures.beside;
-      kept = record { memory = c.write-own-wrote.ensures.kept; tasks = c.put.ensures.kept; fits = law.fits };
+      beside = c.write_own-wrote.ensures.beside;
+      kept = record { memory = c.write_own-wrote.ensures.kept; tasks = c.put.ensures.kept; fits = law.fits };
     }

@@ -13,35 +13,35 @@ use Rattle.versions.proofs.Serving.{refused-by, class-free, serve-store, store-v
 use Rattle.versions.proofs.Tabling.{placed, squashes-le}
 use Rattle.buffer.proofs.buffer.CentralBuffer.put.Goals as goal
 
-pub returns-in-err-k : goal.returns-in-err-k
-returns-in-err-k g c =
+pub returns-in_err-k : goal.returns-in_err-k
+returns-in_err-k g c =
     let b = c.args.self.now in
     let ws = g.M.Memory.words b.memory in
-    let q = err_from_is_err_and c.from-residual.result c.from-residual.ensures.1 in
-    let law = refused-by (plain_in g.M.Memory.words b) (Store c.args.p c.args.a c.args.w) c.from-residual.result c.in-err-k.field-0.0 (access_place (length ws) (processors_of b.tasks) (table_of b.tasks) c.args.p c.args.a) (load-agrees ws (processors_of b.tasks) (table_of b.tasks) c.args.p c.args.a) c.in-err-k.ensures (q.1 ∙ ap Err q.2) in
+    let q = err_from_is_err_and c.from_residual.result c.from_residual.ensures.1 in
+    let law = refused-by (plain_in g.M.Memory.words b) (Store c.args.p c.args.a c.args.w) c.from_residual.result c.in_err-k.field-0.0 (access_place (length ws) (processors_of b.tasks) (table_of b.tasks) c.args.p c.args.a) (load-agrees ws (processors_of b.tasks) (table_of b.tasks) c.args.p c.args.a) c.in_err-k.ensures (q.1 ∙ ap Err q.2) in
     record { answer = law.0; after = law.1; beside = refl; kept = c.requires }
 
 pub overflow-add-k : goal.overflow-add-k
 overflow-add-k g c =
     let b = c.args.self.now in
     let ps = processors_of b.tasks in
-    let y = ok-access (length (g.M.Memory.words b.memory)) ps (table_of b.tasks) c.args.p c.args.a c.in-ok-k.k c.in-ok-k.ensures in
-    omega (arith, (placed ps c.args.p c.in-ok-k.k y.0).within, few b.tasks.order c.requires.tasks.order)
+    let y = ok-access (length (g.M.Memory.words b.memory)) ps (table_of b.tasks) c.args.p c.args.a c.in_ok-k.k c.in_ok-k.ensures in
+    omega (arith, (placed ps c.args.p c.in_ok-k.k y.0).within, few b.tasks.order c.requires.tasks.order)
 
 pub overflow-sub-active : goal.overflow-sub-active
 overflow-sub-active g c =
     let b = c.args.self.now in
     let ps = processors_of b.tasks in
-    let y = ok-access (length (g.M.Memory.words b.memory)) ps (table_of b.tasks) c.args.p c.args.a c.in-ok-k.k c.in-ok-k.ensures in
-    let hit = hit-is (table_of b.tasks) ps c.in-ok-k.k c.args.a c.squashed-hit.result c.squashed-hit.ensures in
-    omega (arith, squashes-le (table_of b.tasks) ps c.args.p c.in-ok-k.k c.args.a y.0, hit, c.len-active.ensures.value)
+    let y = ok-access (length (g.M.Memory.words b.memory)) ps (table_of b.tasks) c.args.p c.args.a c.in_ok-k.k c.in_ok-k.ensures in
+    let hit = hit-is (table_of b.tasks) ps c.in_ok-k.k c.args.a c.squashed-hit.result c.squashed-hit.ensures in
+    omega (arith, squashes-le (table_of b.tasks) ps c.args.p c.in_ok-k.k c.args.a y.0, hit, c.len-active.ensures.value)
 
 pub put-requires : goal.put-requires
 put-requires g c =
     let b = c.args.self.now in
     let ps = processors_of b.tasks in
     let ws = g.M.Memory.words b.memory in
-    let y = ok-access (length ws) ps (table_of b.tasks) c.args.p c.args.a c.in-ok-k.k c.in-ok-k.ensures in (
+    let y = ok-access (length ws) ps (table_of b.tasks) c.args.p c.args.a c.in_ok-k.k c.in_ok-k.ensures in (
       c.cut.ensures.kept,
       y.1,
       subst (λ (t : Table). (x : ℕ) → is_held (t c.args.p x) ≡ true → x % 16 ≡ c.args.a % 16 → x ≡ c.args.a) (sym c.cut.ensures.table)
@@ -53,9 +53,9 @@ pub overflow-cast-result : goal.overflow-cast-result
 overflow-cast-result g c =
     let b = c.args.self.now in
     let ps = processors_of b.tasks in
-    let y = ok-access (length (g.M.Memory.words b.memory)) ps (table_of b.tasks) c.args.p c.args.a c.in-ok-k.k c.in-ok-k.ensures in
-    let hit = hit-is (table_of b.tasks) ps c.in-ok-k.k c.args.a c.squashed-hit.result c.squashed-hit.ensures in
-    omega (arith, squashes-le (table_of b.tasks) ps c.args.p c.in-ok-k.k c.args.a y.0, hit, few b.tasks.order c.requires.tasks.order)
+    let y = ok-access (length (g.M.Memory.words b.memory)) ps (table_of b.tasks) c.args.p c.args.a c.in_ok-k.k c.in_ok-k.ensures in
+    let hit = hit-is (table_of b.tasks) ps c.in_ok-k.k c.args.a c.squashed-hit.result c.squashed-hit.ensures in
+    omega (arith, squashes-le (table_of b.tasks) ps c.args.p c.in_ok-k.k c.args.a y.0, hit, few b.tasks.order c.requires.tasks.order)
 
 pub returns : goal.returns
 returns g c =
@@ -63,14 +63,14 @@ returns g c =
     let ws = g.M.Memory.words b.memory in
     let ps = processors_of b.tasks in
     let table = table_of b.tasks in
-    let hit = hit-is table ps c.in-ok-k.k c.args.a c.squashed-hit.result c.squashed-hit.ensures in
+    let hit = hit-is table ps c.in_ok-k.k c.args.a c.squashed-hit.result c.squashed-hit.ensures in
     let left : c.len-active.result - c.squashed-hit.result ≡ length ps - c.squashed-hit.result = ap (λ (n : ℕ). n - c.squashed-hit.result) c.len-active.ensures.value in
-    let law = serve-store ws ps table c.requires.tasks.order.apart c.requires.fits c.args.p c.args.a c.args.w c.in-ok-k.k c.squashed-hit.result
-    (processors_of c.put.new.self) (table_of c.cut.new.self) (table_of c.put.new.self) c.in-ok-k.ensures hit
+    let law = serve-store ws ps table c.requires.tasks.order.apart c.requires.fits c.args.p c.args.a c.args.w c.in_ok-k.k c.squashed-hit.result
+    (processors_of c.put.new.self) (table_of c.cut.new.self) (table_of c.put.new.self) c.in_ok-k.ensures hit
     (c.put.ensures.order ∙ (c.cut.ensures.order ∙ ap (λ (n : ℕ). take n ps) left))
     (c.cut.ensures.table ∙ ap (λ (n : ℕ). without_all table (drop n ps)) left)
-    (store-version (table_of c.cut.new.self) c.args.p c.args.a c.args.w c.version-version.result c.with-store.result (table_of c.put.new.self)
-    c.version-version.ensures c.with-store.ensures c.put.ensures.table) in
+    (store-version (table_of c.cut.new.self) c.args.p c.args.a c.args.w c.version-version.result c.with_store.result (table_of c.put.new.self)
+    c.version-version.ensures c.with_store.ensures c.put.ensures.table) in
     record {
       answer = law.answer;
       after = law.after;

@@ -14,20 +14,20 @@ loop-c-init g c =
     let b = c.args.self.now in
     let ws = g.M.Memory.words b.memory in
     let at = table_of b.tasks c.args.p in
-    (c.requires.0.memory, refl, sym (words-none at ws), sym (count_none at (length ws)), omega arith, refl)
+    (c.requires.sound_buffer.memory, refl, sym (words-none at ws), sym (count_none at (length ws)), omega arith, refl)
 
-pub write-class-wrote-requires : goal.write-class-wrote-requires
-write-class-wrote-requires g c =
+pub write_class-wrote-requires : goal.write_class-wrote-requires
+write_class-wrote-requires g c =
     let b = c.args.self.now in
     let ws = g.M.Memory.words b.memory in
     let at = table_of b.tasks c.args.p in
     let same = sym c.loop-c.invariant.1 in
     let long : length ws ≡ length (g.M.Memory.words c.loop-c.self.memory) = sym (ap length c.loop-c.invariant.2 ∙ length-laid_over_all (up_to_class at c.loop-c.c) ws) in (
       c.loop-c.invariant.0,
-      subst GoodTasks same c.requires.0.tasks,
+      subst GoodTasks same c.requires.sound_buffer.tasks,
       subst (λ (n : ℕ). Fitting n (processors_of c.loop-c.self.tasks) (table_of c.loop-c.self.tasks)) long
-          (subst (λ (t : Tasks). Fitting (length ws) (processors_of t) (table_of t)) same c.requires.0.fits),
-      c.requires.1,
+          (subst (λ (t : Tasks). Fitting (length ws) (processors_of t) (table_of t)) same c.requires.sound_buffer.fits),
+      c.requires.p_bound,
       omega arith,
     )
 
@@ -37,15 +37,15 @@ loop-c-preserved g c =
     let ws = g.M.Memory.words b.memory in
     let at = table_of b.tasks c.args.p in
     let same = c.loop-c.invariant.1 in
-    let law : ClassWritten at c.loop-c.c ws (g.M.Memory.words c.write-class-wrote.new.self.memory) c.write-class-wrote.result =
-    subst (λ (t : Tasks). ClassWritten (table_of t c.args.p) c.loop-c.c ws (g.M.Memory.words c.write-class-wrote.new.self.memory) c.write-class-wrote.result) same
-    (c.write-class-wrote.ensures.class ws (c.loop-c.invariant.2 ∙ ap (λ (t : Tasks). laid_over_all (up_to_class (table_of t c.args.p) c.loop-c.c) ws) (sym same))) in (
-      c.write-class-wrote.ensures.kept,
-      c.write-class-wrote.ensures.tasks ∙ same,
+    let law : ClassWritten at c.loop-c.c ws (g.M.Memory.words c.write_class-wrote.new.self.memory) c.write_class-wrote.result =
+    subst (λ (t : Tasks). ClassWritten (table_of t c.args.p) c.loop-c.c ws (g.M.Memory.words c.write_class-wrote.new.self.memory) c.write_class-wrote.result) same
+    (c.write_class-wrote.ensures.class ws (c.loop-c.invariant.2 ∙ ap (λ (t : Tasks). laid_over_all (up_to_class (table_of t c.args.p) c.loop-c.c) ws) (sym same))) in (
+      c.write_class-wrote.ensures.kept,
+      c.write_class-wrote.ensures.tasks ∙ same,
       law.words,
-      ap (λ (n : ℕ). n + c.write-class-wrote.result) c.loop-c.invariant.3 ∙ sym law.count,
-      omega (arith, c.write-class-wrote.ensures.bound, c.loop-c.invariant.4),
-      c.write-class-wrote.ensures.beside ∙ c.loop-c.invariant.5,
+      ap (λ (n : ℕ). n + c.write_class-wrote.result) c.loop-c.invariant.3 ∙ sym law.count,
+      omega (arith, c.write_class-wrote.ensures.bound, c.loop-c.invariant.4),
+      c.write_class-wrote.ensures.beside ∙ c.loop-c.invariant.5,
     )
 
 pub returns : goal.returns

@@ -7,7 +7,7 @@ use Rattle.versions.proofs.Stepping.{cut_step, cut-none, cut_all}
 use Rattle.buffer.proofs.tasks.Tasks.cut.Goals as goal
 
 pub loop-i-init : goal.loop-i-init
-loop-i-init c = (refl, c.requires.0.rows, cut-none (table_of c.args.self.now) (processors_of c.args.self.now) c.args.k c.requires.1)
+loop-i-init c = (refl, c.requires.good_tasks.rows, cut-none (table_of c.args.self.now) (processors_of c.args.self.now) c.args.k c.requires.k_in_bounds)
 
 pub loop-i-preserved : goal.loop-i-preserved
 loop-i-preserved c =

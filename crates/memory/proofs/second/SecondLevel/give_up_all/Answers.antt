@@ -7,12 +7,12 @@ pub loop-i-preserved : goal.loop-i-preserved
 loop-i-preserved g c =
     let m = g.M.Memory in
     let before = cached_of m.words c.loop-i.self in
-    let after = cached_of m.words c.give-up.new.self in
+    let after = cached_of m.words c.give_up.new.self in
     let tied = c.loop-i.invariant.0.1 in (
-      (c.give-up.ensures.kept, tied-after before after c.loop-i.i tied (omega arith) c.give-up.ensures.cached),
-      c.give-up.ensures.beside ∙ c.loop-i.invariant.1,
-      counted-after before after c.loop-i.i tied (omega arith) c.give-up.ensures.cached ∙ c.loop-i.invariant.2,
-      empty-after before after c.loop-i.i tied (omega arith) c.give-up.ensures.cached c.loop-i.invariant.3,
+      (c.give_up.ensures.kept, tied-after before after c.loop-i.i tied (omega arith) c.give_up.ensures.cached),
+      c.give_up.ensures.beside ∙ c.loop-i.invariant.1,
+      counted-after before after c.loop-i.i tied (omega arith) c.give_up.ensures.cached ∙ c.loop-i.invariant.2,
+      empty-after before after c.loop-i.i tied (omega arith) c.give_up.ensures.cached c.loop-i.invariant.3,
     )
 
 pub returns : goal.returns

@@ -7,7 +7,7 @@ pub returns : goal.returns
 returns g c =
     let cache = cached_of g.M.Memory.words c.args.self.now in
     record {
-      missed = ap is_some c.word-of.ensures;
-      answer = held-answer cache c.args.a c.word-of.result c.requires.1 c.word-of.ensures;
-      cached = held-cached cache c.args.a c.word-of.result c.word-of.ensures;
+      missed = ap is_some c.word_of.ensures;
+      answer = held-answer cache c.args.a c.word_of.result c.requires.1 c.word_of.ensures;
+      cached = held-cached cache c.args.a c.word_of.result c.word_of.ensures;
     }

@@ -8,7 +8,7 @@ pub returns : goal.returns
 returns g c =
     let before = cached_of g.M.Memory.words c.args.self.now in
     let freed = cached_of g.M.Memory.words c.free.new.self in
-    let law = put-done before freed c.args.a c.args.w c.requires.0.1 c.requires.1 c.free.ensures.cached in
+    let law = put-done before freed c.args.a c.args.w c.requires.sound.1 c.requires.inside c.free.ensures.cached in
     record {
       after = law.after;
       beside = c.free.ensures.beside;

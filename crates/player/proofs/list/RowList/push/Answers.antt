@@ -10,7 +10,7 @@ returns g c =
     let row = l.row.now in
     let n = l.len in
     let x = c.args.x in
-    let free : is_full (content l) (room l) ≡ false = sym c.is-full.ensures ∙ c.if-is-full.false in
+    let free : is_full (content l) (room l) ≡ false = sym c.is_full.ensures ∙ c.if-is_full.false in
     let less : n < capacity row = place-left row n c.requires free in
     record {
       answer = push-accepted row n free;

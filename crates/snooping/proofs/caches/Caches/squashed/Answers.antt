@@ -14,14 +14,14 @@ returns-then-version c =
     squash-marked f ps c.args.k c.loop-i.i c.loop-i.invariant c.len-n.result c.len-n.ensures.value (omega (arith, c.len-n.ensures.value))
     (ap (λ (v : Version). v.mark) (sym version) ∙ c.if-version.true)
 
-pub returns-then-is-some : goal.returns-then-is-some
-returns-then-is-some c =
+pub returns-then-is_some : goal.returns-then-is_some
+returns-then-is_some c =
     let t = c.args.self.now in
     let ps = processors_of t in
     let f : ℕ → Version = λ q. table_of t q c.args.a in
     let version : c.version-version.result ≡ f (get_or ps c.loop-i.i 0) = c.version-version.ensures ∙ ap f c.at.ensures.value in
     squash-hidden f ps c.args.k c.loop-i.i c.loop-i.invariant (omega (arith, c.len-n.ensures.value))
-    (ap (λ (v : Version). v.mark) (sym version) ∙ c.if-version.false) (ap is_own (sym version) ∙ (sym c.is-some.ensures ∙ c.if-is-some.true))
+    (ap (λ (v : Version). v.mark) (sym version) ∙ c.if-version.false) (ap is_own (sym version) ∙ (sym c.is_some.ensures ∙ c.if-is_some.true))
 
 pub loop-i-preserved : goal.loop-i-preserved
 loop-i-preserved c =
@@ -30,7 +30,7 @@ loop-i-preserved c =
     let f : ℕ → Version = λ q. table_of t q c.args.a in
     let version : c.version-version.result ≡ f (get_or ps c.loop-i.i 0) = c.version-version.ensures ∙ ap f c.at.ensures.value in
     squash-next f ps c.args.k c.loop-i.i c.loop-i.invariant (omega (arith, c.len-n.ensures.value))
-    (ap (λ (v : Version). v.mark) (sym version) ∙ c.if-version.false) (ap is_own (sym version) ∙ (sym c.is-some.ensures ∙ c.if-is-some.false))
+    (ap (λ (v : Version). v.mark) (sym version) ∙ c.if-version.false) (ap is_own (sym version) ∙ (sym c.is_some.ensures ∙ c.if-is_some.false))
 
 pub returns : goal.returns
 returns c =

@@ -26,9 +26,9 @@ loop-p-preserved c =
           (w.unlink.ensures.order ∙ c.loop-p.invariant.0, w.unlink.ensures.kept, on)
       | in-None w ↦
           let none : is_some (place_in ps c.loop-p.p) ≡ false = ap (λ (o : Order). is_some (place_in (processors o) c.loop-p.p)) (sym c.loop-p.invariant.0) ∙ ap is_some (sym w.in-None.ensures) in
-          let on = cut-idle ps (lines_in s) now c.loop-p.p c.loop-p.invariant.2 (lines_in w.end-all.new.self) none (w.end-all.ensures.lines refl) in
+          let on = cut-idle ps (lines_in s) now c.loop-p.p c.loop-p.invariant.2 (lines_in w.end_all.new.self) none (w.end_all.ensures.lines refl) in
           subst (λ (x : Caches). (x.order ≡ s.order) × GoodCaches x × (lines_in x ≡ cut_below (c.loop-p.p + 1) ps (lines_in s))) (sym w.self-is)
-          (w.end-all.ensures.order ∙ c.loop-p.invariant.0, record { order = subst Ordered (sym w.end-all.ensures.order) c.loop-p.invariant.1.order; wide = w.end-all.ensures.kept }, on)
+          (w.end_all.ensures.order ∙ c.loop-p.invariant.0, record { order = subst Ordered (sym w.end_all.ensures.order) c.loop-p.invariant.1.order; wide = w.end_all.ensures.kept }, on)
     ]
 
 pub returns : goal.returns

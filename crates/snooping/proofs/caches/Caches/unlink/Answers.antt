@@ -9,10 +9,10 @@ returns c =
     let s = c.args.self.now in
     let x = c.unlink.new.self in
     record {
-      lines = cache-mapped s.list c.args.p x c.requires.0.wide c.requires.1 (unlinked (processors_of s)) refl c.unlink.ensures;
+      lines = cache-mapped s.list c.args.p x c.requires.good_caches.wide c.requires.p_bound (unlinked (processors_of s)) refl c.unlink.ensures;
       order = refl;
       kept = record {
-        order = c.requires.0.order;
-        wide = wide-set s.list c.args.p x c.requires.0.wide c.requires.1 (wide-map (unlinked (processors_of s)) s.list c.args.p x c.requires.0.wide c.requires.1 c.unlink.ensures);
+        order = c.requires.good_caches.order;
+        wide = wide-set s.list c.args.p x c.requires.good_caches.wide c.requires.p_bound (wide-map (unlinked (processors_of s)) s.list c.args.p x c.requires.good_caches.wide c.requires.p_bound c.unlink.ensures);
       };
     }

@@ -18,35 +18,35 @@ use Rattle.versions.proofs.Serving.{refused-by}
 use Rattle.snooping.proofs.Snooped.{turn-refused, turn-squash}
 use Rattle.snooping.proofs.store.SnoopingStore.cut.Goals as goal
 
-pub returns-in-err-k : goal.returns-in-err-k
-returns-in-err-k g c =
+pub returns-in_err-k : goal.returns-in_err-k
+returns-in_err-k g c =
     let s = c.args.self.now in
     let ws = g.M.Memory.words s.memory in
-    let q = err_from_is_err_and c.from-residual.result c.from-residual.ensures.1 in
-    let law = refused-by (plain_in g.M.Memory.words s) (Squash c.args.p) c.from-residual.result c.in-err-k.field-0.0 (squash_place (processors_of s.caches) c.args.p) (squash-agrees ws (processors_of s.caches) (table_of s.caches) c.args.p) c.in-err-k.ensures (q.1 ∙ ap Err q.2) in
-    let turn = turn-refused ws (processors_of s.caches) s.caches.list c.requires.caches.wide c.requires.caches.order.apart c.requires.fits c.requires.lines s.report (Squash c.args.p) c.from-residual.result c.in-err-k.field-0.0 (q.1 ∙ ap Err q.2) law.0 law.1 in
+    let q = err_from_is_err_and c.from_residual.result c.from_residual.ensures.1 in
+    let law = refused-by (plain_in g.M.Memory.words s) (Squash c.args.p) c.from_residual.result c.in_err-k.field-0.0 (squash_place (processors_of s.caches) c.args.p) (squash-agrees ws (processors_of s.caches) (table_of s.caches) c.args.p) c.in_err-k.ensures (q.1 ∙ ap Err q.2) in
+    let turn = turn-refused ws (processors_of s.caches) s.caches.list c.requires.caches.wide c.requires.caches.order.apart c.requires.fits c.requires.lines s.report (Squash c.args.p) c.from_residual.result c.in_err-k.field-0.0 (q.1 ∙ ap Err q.2) law.0 law.1 in
     record { answer = turn.answer; after = turn.after; report = turn.report; beside = refl; kept = c.requires }
 
 pub cut-requires : goal.cut-requires
 cut-requires g c =
     let s = c.args.self.now in
-    let y = ok-squash (processors_of s.caches) c.args.p c.in-ok-k.k c.in-ok-k.ensures in
-    (c.requires.caches, omega (arith, (placed (processors_of s.caches) c.args.p c.in-ok-k.k y.0).within))
+    let y = ok-squash (processors_of s.caches) c.args.p c.in_ok-k.k c.in_ok-k.ensures in
+    (c.requires.caches, omega (arith, (placed (processors_of s.caches) c.args.p c.in_ok-k.k y.0).within))
 
 pub overflow-sub-result : goal.overflow-sub-result
 overflow-sub-result g c =
     let s = c.args.self.now in
-    let y = ok-squash (processors_of s.caches) c.args.p c.in-ok-k.k c.in-ok-k.ensures in
-    omega (arith, (placed (processors_of s.caches) c.args.p c.in-ok-k.k y.0).within, c.len-active.ensures.value)
+    let y = ok-squash (processors_of s.caches) c.args.p c.in_ok-k.k c.in_ok-k.ensures in
+    omega (arith, (placed (processors_of s.caches) c.args.p c.in_ok-k.k y.0).within, c.len-active.ensures.value)
 
 pub returns : goal.returns
 returns g c =
     let s = c.args.self.now in
     let ws = g.M.Memory.words s.memory in
     let ps = processors_of s.caches in
-    let turn = turn-squash ws ps s.caches.list c.requires.caches.wide c.requires.caches.order.apart c.requires.fits c.requires.lines s.report c.args.p c.in-ok-k.k
-    (c.len-active.result - c.in-ok-k.k) (processors_of c.cut.new.self) c.cut.new.self.list c.quiet-self.result c.in-ok-k.ensures
-    (ap (λ (n : ℕ). n - c.in-ok-k.k) c.len-active.ensures.value) c.cut.ensures.order c.cut.ensures.lines c.cut.ensures.kept.wide c.quiet-self.ensures in
+    let turn = turn-squash ws ps s.caches.list c.requires.caches.wide c.requires.caches.order.apart c.requires.fits c.requires.lines s.report c.args.p c.in_ok-k.k
+    (c.len-active.result - c.in_ok-k.k) (processors_of c.cut.new.self) c.cut.new.self.list c.quiet-self.result c.in_ok-k.ensures
+    (ap (λ (n : ℕ). n - c.in_ok-k.k) c.len-active.ensures.value) c.cut.ensures.order c.cut.ensures.lines c.cut.ensures.kept.wide c.quiet-self.ensures in
     record {
       answer = turn.answer;
       after = turn.after;

@@ -7,41 +7,41 @@ use Rattle.snooping.specs.States.{has_s}
 use Rattle.snooping.proofs.Writing.{tag-inside, address-none, address-some, line-unwritten, line-written}
 use Rattle.snooping.proofs.store.SnoopingStore.write_line.Goals as goal
 
-pub returns-then-not-has-s : goal.returns-then-not-has-s
-returns-then-not-has-s g c =
+pub returns-then-not-has_s : goal.returns-then-not-has_s
+returns-then-not-has_s g c =
     let s = c.args.self.now in
     let vs = g.M.Memory.words s.memory in
-    let e : has_s (lines_in s.caches c.args.p c.args.c).state ≡ false = ap (λ (x : Line). has_s x.state) (sym c.line-line.ensures) ∙ (sym c.has-s.ensures ∙ c.if-not-has-s.true) in
+    let e : has_s (lines_in s.caches c.args.p c.args.c).state ≡ false = ap (λ (x : Line). has_s x.state) (sym c.line-line.ensures) ∙ (sym c.has_s.ensures ∙ c.if-not-has_s.true) in
     record {
-      class = λ ws before. line-unwritten (length vs) (processors_of s.caches) (lines_in s.caches) c.requires.2 c.requires.1 c.args.p c.args.c ws vs refl e before;
-      address = address-none (length vs) (processors_of s.caches) (lines_in s.caches) c.requires.2 c.requires.1 c.args.p c.args.c e;
+      class = λ ws before. line-unwritten (length vs) (processors_of s.caches) (lines_in s.caches) c.requires.tagged c.requires.fitting c.args.p c.args.c ws vs refl e before;
+      address = address-none (length vs) (processors_of s.caches) (lines_in s.caches) c.requires.tagged c.requires.fitting c.args.p c.args.c e;
       size = refl;
       caches = refl;
       report = refl;
       beside = refl;
-      kept = c.requires.0;
+      kept = c.requires.sound;
     }
 
-pub write-own-requires : goal.write-own-requires
-write-own-requires g c =
+pub write_own-requires : goal.write_own-requires
+write_own-requires g c =
     let s = c.args.self.now in
     let vs = g.M.Memory.words s.memory in
-    let e : has_s (lines_in s.caches c.args.p c.args.c).state ≡ true = ap (λ (x : Line). has_s x.state) (sym c.line-line.ensures) ∙ (sym c.has-s.ensures ∙ c.if-not-has-s.false) in
-    (c.requires.0, subst (λ (x : Line). x.tag < length vs) (sym c.line-line.ensures) (tag-inside (length vs) (processors_of s.caches) (lines_in s.caches) c.requires.2 c.requires.1 c.args.p c.args.c e))
+    let e : has_s (lines_in s.caches c.args.p c.args.c).state ≡ true = ap (λ (x : Line). has_s x.state) (sym c.line-line.ensures) ∙ (sym c.has_s.ensures ∙ c.if-not-has_s.false) in
+    (c.requires.sound, subst (λ (x : Line). x.tag < length vs) (sym c.line-line.ensures) (tag-inside (length vs) (processors_of s.caches) (lines_in s.caches) c.requires.tagged c.requires.fitting c.args.p c.args.c e))
 
 pub returns : goal.returns
 returns g c =
     let s = c.args.self.now in
     let vs = g.M.Memory.words s.memory in
     let x = lines_in s.caches c.args.p c.args.c in
-    let e : has_s x.state ≡ true = ap (λ (y : Line). has_s y.state) (sym c.line-line.ensures) ∙ (sym c.has-s.ensures ∙ c.if-not-has-s.false) in
-    let written = c.write-own.ensures.words ∙ ap (λ (y : Line). written_to (Some y.word) y.tag vs) c.line-line.ensures in
+    let e : has_s x.state ≡ true = ap (λ (y : Line). has_s y.state) (sym c.line-line.ensures) ∙ (sym c.has_s.ensures ∙ c.if-not-has_s.false) in
+    let written = c.write_own.ensures.words ∙ ap (λ (y : Line). written_to (Some y.word) y.tag vs) c.line-line.ensures in
     record {
-      class = λ ws before. line-written (length vs) (processors_of s.caches) (lines_in s.caches) c.requires.2 c.requires.1 c.args.p c.args.c ws vs (g.M.Memory.words c.write-own.new.self.memory) refl e written before;
-      address = ap (λ (y : Line). Some y.tag) c.line-line.ensures ∙ address-some (length vs) (processors_of s.caches) (lines_in s.caches) c.requires.2 c.requires.1 c.args.p c.args.c e;
+      class = λ ws before. line-written (length vs) (processors_of s.caches) (lines_in s.caches) c.requires.tagged c.requires.fitting c.args.p c.args.c ws vs (g.M.Memory.words c.write_own.new.self.memory) refl e written before;
+      address = ap (λ (y : Line). Some y.tag) c.line-line.ensures ∙ address-some (length vs) (processors_of s.caches) (lines_in s.caches) c.requires.tagged c.requires.fitting c.args.p c.args.c e;
       size = ap length written ∙ length-written_to (Some x.word) x.tag vs;
-      caches = c.write-own.ensures.caches;
-      report = c.write-own.ensures.report;
-      beside = c.write-own.ensures.beside;
-      kept = c.write-own.ensures.kept;
+      caches = c.write_own.ensures.caches;
+      report = c.write_own.ensures.report;
+      beside = c.write_own.ensures.beside;
+      kept = c.write_own.ensures.kept;
     }

@@ -8,14 +8,14 @@ pub returns : goal.returns
 returns c =
     let o = c.args.self.now in
     let qs = take o.count o.list in
-    let long : length qs ≡ o.count = length-take-le o.count o.list (omega (arith, c.requires.0.room, c.requires.0.few)) in
-    let small : length qs < 4 = room_for qs c.args.p c.requires.0.apart c.requires.1 c.requires.2 (omega (arith, c.requires.0.few)) in
-    let more = take_more_set o.list o.count c.args.p (omega (arith, c.requires.0.room)) in
+    let long : length qs ≡ o.count = length-take-le o.count o.list (omega (arith, c.requires.ordered.room, c.requires.ordered.few)) in
+    let small : length qs < 4 = room_for qs c.args.p c.requires.ordered.apart c.requires.p_bound c.requires.p_value (omega (arith, c.requires.ordered.few)) in
+    let more = take_more_set o.list o.count c.args.p (omega (arith, c.requires.ordered.room)) in
     record {
       order = more;
       kept = record {
-        room = length-set o.list o.count c.args.p ∙ c.requires.0.room;
+        room = length-set o.list o.count c.args.p ∙ c.requires.ordered.room;
         few = omega arith;
-        apart = subst Apart (sym more) (apart-push qs c.args.p c.requires.0.apart c.requires.1 c.requires.2);
+        apart = subst Apart (sym more) (apart-push qs c.args.p c.requires.ordered.apart c.requires.p_bound c.requires.p_value);
       };
     }

@@ -8,9 +8,9 @@ pub returns : goal.returns
 returns c =
     let o = c.args.self.now in
     let k = c.args.k in
-    let within : k ≤ o.count = omega (arith, length-take-le o.count o.list (omega (arith, c.requires.0.room, c.requires.0.few))) in
+    let within : k ≤ o.count = omega (arith, length-take-le o.count o.list (omega (arith, c.requires.ordered.room, c.requires.ordered.few))) in
     let same = take-take k o.count o.list within in
     record {
       order = sym same;
-      kept = record { room = c.requires.0.room; few = omega (arith, c.requires.0.few); apart = subst Apart same (apart-take k (take o.count o.list) c.requires.0.apart) };
+      kept = record { room = c.requires.ordered.room; few = omega (arith, c.requires.ordered.few); apart = subst Apart same (apart-take k (take o.count o.list) c.requires.ordered.apart) };
     }

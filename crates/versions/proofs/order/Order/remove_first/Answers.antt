@@ -8,10 +8,10 @@ pub returns : goal.returns
 returns c =
     let o = c.args.self.now in
     let qs = take o.count o.list in
-    let long : length qs ≡ o.count = length-take-le o.count o.list (omega (arith, c.requires.0.room, c.requires.0.few)) in
-    let some : 0 < o.count = omega (arith, c.requires.1) in
-    let down = shifted_down o.list o.count c.requires.0.room some c.requires.0.few in
+    let long : length qs ≡ o.count = length-take-le o.count o.list (omega (arith, c.requires.ordered.room, c.requires.ordered.few)) in
+    let some : 0 < o.count = omega (arith, c.requires.nonzero) in
+    let down = shifted_down o.list o.count c.requires.ordered.room some c.requires.ordered.few in
     record {
       order = down;
-      kept = record { room = refl; few = omega (arith, c.requires.0.few); apart = subst Apart (sym down) (apart-drop qs c.requires.0.apart) };
+      kept = record { room = refl; few = omega (arith, c.requires.ordered.few); apart = subst Apart (sym down) (apart-drop qs c.requires.ordered.apart) };
     }
