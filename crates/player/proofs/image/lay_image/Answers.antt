@@ -10,11 +10,11 @@ use Rattle.player.proofs.image.lay_image.Goals as goal
 pub unreachable-requires : goal.unreachable-requires
 unreachable-requires g c = has-count _ _ c.requires.tt_value c.in-default.ensures
 
-pub slice-bounds-lay_pairs-count : goal.slice-bounds-lay_pairs-count
-slice-bounds-lay_pairs-count g c = (accepted _ _ _ _ _ c.in-Some.ensures.0 c.in-Some.ensures.1 c.requires.tt_value).pairs
+pub slice_bounds-lay_pairs-count : goal.slice_bounds-lay_pairs-count
+slice_bounds-lay_pairs-count g c = (accepted _ _ _ _ _ c.in-Some.ensures.0 c.in-Some.ensures.1 c.requires.tt_value).pairs
 
-pub slice-bounds-lay_pairs-start : goal.slice-bounds-lay_pairs-start
-slice-bounds-lay_pairs-start g c =
+pub slice_bounds-lay_pairs-start : goal.slice_bounds-lay_pairs-start
+slice_bounds-lay_pairs-start g c =
     let whole : 8 * c.in-Some.count ≤ length c.in-Some.rest.now =
     (accepted _ _ _ _ _ c.in-Some.ensures.0 c.in-Some.ensures.1 c.requires.tt_value).pairs in
     search rules

@@ -3,8 +3,8 @@ use Rattle.std.specs.Str.Parse.{digits_value}
 use Rattle.player.proofs.Numbering.{digit-first, value-next, small-not, small_is}
 use Rattle.player.proofs.number.plain_value.Goals as goal
 
-pub overflow-sub-n : goal.overflow-sub-n
-overflow-sub-n c = (digit-first c.args.part.now c.loop-b.b-index (omega arith) c.loop-b.invariant.2).0
+pub overflow_sub-n : goal.overflow_sub-n
+overflow_sub-n c = (digit-first c.args.part.now c.loop-b.b-index (omega arith) c.loop-b.invariant.2).0
 
 pub returns-then-n-ge-ABOVE : goal.returns-then-n-ge-ABOVE
 returns-then-n-ge-ABOVE c =

@@ -45,13 +45,13 @@ returns-in_err-read_turns g c =
       kept = c.requires.sound;
     }
 
-pub slice-bounds-play_each-count : goal.slice-bounds-play_each-count
-slice-bounds-play_each-count g c =
+pub slice_bounds-play_each-count : goal.slice_bounds-play_each-count
+slice_bounds-play_each-count g c =
     before-rest (content c.args.turns.now) (text_read (free c.args.turns.now) c.args.text.now).turns (content c.read_turns.new.turns) c.items.result.now
     c.len-before.result c.items.ensures c.read_turns.ensures.after c.len-before.ensures
 
-pub slice-bounds-play_each-start : goal.slice-bounds-play_each-start
-slice-bounds-play_each-start g c =
+pub slice_bounds-play_each-start : goal.slice_bounds-play_each-start
+slice_bounds-play_each-start g c =
     before-rest (content c.args.turns.now) (text_read (free c.args.turns.now) c.args.text.now).turns (content c.read_turns.new.turns) c.items.result.now
     c.len-before.result c.items.ensures c.read_turns.ensures.after c.len-before.ensures
 

@@ -23,8 +23,8 @@ cut-requires g c =
     let y = ok-squash (processors_of b.tasks) c.args.p c.in_ok-k.k c.in_ok-k.ensures in
     (c.requires.tasks, omega (arith, (placed (processors_of b.tasks) c.args.p c.in_ok-k.k y.0).within))
 
-pub overflow-sub-result : goal.overflow-sub-result
-overflow-sub-result g c =
+pub overflow_sub-result : goal.overflow_sub-result
+overflow_sub-result g c =
     let b = c.args.self.now in
     let y = ok-squash (processors_of b.tasks) c.args.p c.in_ok-k.k c.in_ok-k.ensures in
     omega (arith, (placed (processors_of b.tasks) c.args.p c.in_ok-k.k y.0).within, c.len-active.ensures.value)

@@ -13,12 +13,12 @@ use Rattle.versions.proofs.Serving.{refused-by, serve-replace}
 use Rattle.versions.proofs.Tabling.{placed}
 use Rattle.buffer.proofs.buffer.CentralBuffer.give_back.Goals as goal
 
-pub returns-in_err--k : goal.returns-in_err--k
-returns-in_err--k g c =
+pub returns-in_err-_k : goal.returns-in_err-_k
+returns-in_err-_k g c =
     let b = c.args.self.now in
     let ws = g.M.Memory.words b.memory in
     let q = err_from_is_err_and c.from_residual.result c.from_residual.ensures.1 in
-    let law = refused-by (plain_in g.M.Memory.words b) (Replace c.args.p c.args.a) c.from_residual.result c.in_err--k.field-0.0 (replace_place (length ws) (processors_of b.tasks) (table_of b.tasks) c.args.p c.args.a) (replace-agrees ws (processors_of b.tasks) (table_of b.tasks) c.args.p c.args.a) c.in_err--k.ensures (q.1 ∙ ap Err q.2) in
+    let law = refused-by (plain_in g.M.Memory.words b) (Replace c.args.p c.args.a) c.from_residual.result c.in_err-_k.field-0.0 (replace_place (length ws) (processors_of b.tasks) (table_of b.tasks) c.args.p c.args.a) (replace-agrees ws (processors_of b.tasks) (table_of b.tasks) c.args.p c.args.a) c.in_err-_k.ensures (q.1 ∙ ap Err q.2) in
     record { answer = law.0; after = law.1; beside = refl; kept = c.requires }
 
 pub returns : goal.returns
@@ -29,8 +29,8 @@ returns g c =
     let table = table_of b.tasks in
     let same = c.write_own-wrote.ensures.tasks in
     let own : c.version-own.result.own ≡ (table c.args.p c.args.a).own = ap (λ (v : Version). v.own) c.version-own.ensures in
-    let law = serve-replace ws ps table c.requires.tasks.order.apart c.requires.fits c.args.p c.args.a c.in_ok--k.-k c.write_own-wrote.result
-    (g.M.Memory.words c.write_own-wrote.new.self.memory) (processors_of c.put.new.self) (table_of c.put.new.self) c.in_ok--k.ensures
+    let law = serve-replace ws ps table c.requires.tasks.order.apart c.requires.fits c.args.p c.args.a c.in_ok-_k.-k c.write_own-wrote.result
+    (g.M.Memory.words c.write_own-wrote.new.self.memory) (processors_of c.put.new.self) (table_of c.put.new.self) c.in_ok-_k.ensures
     (c.write_own-wrote.ensures.count ∙ ap (λ (o : Option ℕ). cond (is_some o) 1 0) own)
     (c.write_own-wrote.ensures.words ∙ ap (λ (o : Option ℕ). written_to o c.args.a ws) own)
     (c.put.ensures.order ∙ ap processors_of same)

@@ -21,15 +21,15 @@ returns-in_err-k g c =
     let law = refused-by (plain_in g.M.Memory.words b) (Store c.args.p c.args.a c.args.w) c.from_residual.result c.in_err-k.field-0.0 (access_place (length ws) (processors_of b.tasks) (table_of b.tasks) c.args.p c.args.a) (load-agrees ws (processors_of b.tasks) (table_of b.tasks) c.args.p c.args.a) c.in_err-k.ensures (q.1 ∙ ap Err q.2) in
     record { answer = law.0; after = law.1; beside = refl; kept = c.requires }
 
-pub overflow-add-k : goal.overflow-add-k
-overflow-add-k g c =
+pub overflow_add-k : goal.overflow_add-k
+overflow_add-k g c =
     let b = c.args.self.now in
     let ps = processors_of b.tasks in
     let y = ok-access (length (g.M.Memory.words b.memory)) ps (table_of b.tasks) c.args.p c.args.a c.in_ok-k.k c.in_ok-k.ensures in
     omega (arith, (placed ps c.args.p c.in_ok-k.k y.0).within, few b.tasks.order c.requires.tasks.order)
 
-pub overflow-sub-active : goal.overflow-sub-active
-overflow-sub-active g c =
+pub overflow_sub-active : goal.overflow_sub-active
+overflow_sub-active g c =
     let b = c.args.self.now in
     let ps = processors_of b.tasks in
     let y = ok-access (length (g.M.Memory.words b.memory)) ps (table_of b.tasks) c.args.p c.args.a c.in_ok-k.k c.in_ok-k.ensures in
@@ -49,8 +49,8 @@ put-requires g c =
           (held-without (table_of b.tasks) (drop (c.len-active.result - c.squashed-hit.result) ps) c.args.p x held) class),
     )
 
-pub overflow-cast-result : goal.overflow-cast-result
-overflow-cast-result g c =
+pub overflow_cast-result : goal.overflow_cast-result
+overflow_cast-result g c =
     let b = c.args.self.now in
     let ps = processors_of b.tasks in
     let y = ok-access (length (g.M.Memory.words b.memory)) ps (table_of b.tasks) c.args.p c.args.a c.in_ok-k.k c.in_ok-k.ensures in

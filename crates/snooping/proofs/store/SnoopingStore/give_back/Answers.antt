@@ -20,15 +20,15 @@ use Rattle.snooping.specs.Report.{quiet, written_back}
 use Rattle.snooping.proofs.Snooped.{turn-refused, turn-replace}
 use Rattle.snooping.proofs.store.SnoopingStore.give_back.Goals as goal
 
-pub returns-in_err--k : goal.returns-in_err--k
-returns-in_err--k g c =
+pub returns-in_err-_k : goal.returns-in_err-_k
+returns-in_err-_k g c =
     let s = c.args.self.now in
     let ws = g.M.Memory.words s.memory in
     let ps = processors_of s.caches in
     let t = Replace c.args.p c.args.a in
     let q = err_from_is_err_and c.from_residual.result c.from_residual.ensures.1 in
-    let law = refused-by (plain_in g.M.Memory.words s) t c.from_residual.result c.in_err--k.field-0.0 (replace_place (length ws) ps (table_of s.caches) c.args.p c.args.a) (replace-agrees ws ps (table_of s.caches) c.args.p c.args.a) c.in_err--k.ensures (q.1 ∙ ap Err q.2) in
-    let turn = turn-refused ws ps s.caches.list c.requires.caches.wide c.requires.caches.order.apart c.requires.fits c.requires.lines s.report t c.from_residual.result c.in_err--k.field-0.0 (q.1 ∙ ap Err q.2) law.0 law.1 in
+    let law = refused-by (plain_in g.M.Memory.words s) t c.from_residual.result c.in_err-_k.field-0.0 (replace_place (length ws) ps (table_of s.caches) c.args.p c.args.a) (replace-agrees ws ps (table_of s.caches) c.args.p c.args.a) c.in_err-_k.ensures (q.1 ∙ ap Err q.2) in
+    let turn = turn-refused ws ps s.caches.list c.requires.caches.wide c.requires.caches.order.apart c.requires.fits c.requires.lines s.report t c.from_residual.result c.in_err-_k.field-0.0 (q.1 ∙ ap Err q.2) law.0 law.1 in
     record { answer = turn.answer; after = turn.after; report = turn.report; beside = refl; kept = c.requires }
 
 pub returns : goal.returns
@@ -39,8 +39,8 @@ returns g c =
     let table = table_of s.caches in
     let same = c.write_own-wrote.ensures.caches in
     let own : c.version-own.result.own ≡ (table c.args.p c.args.a).own = ap (λ (v : Version). v.own) c.version-own.ensures in
-    let turn = turn-replace ws ps s.caches.list c.requires.caches.wide c.requires.caches.order.apart c.requires.fits c.requires.lines s.report c.args.p c.args.a c.in_ok--k.-k c.write_own-wrote.result
-    (g.M.Memory.words c.write_own-wrote.new.self.memory) (processors_of c.end_line.new.self) c.end_line.new.self.list c.given_back-self.result c.in_ok--k.ensures
+    let turn = turn-replace ws ps s.caches.list c.requires.caches.wide c.requires.caches.order.apart c.requires.fits c.requires.lines s.report c.args.p c.args.a c.in_ok-_k.-k c.write_own-wrote.result
+    (g.M.Memory.words c.write_own-wrote.new.self.memory) (processors_of c.end_line.new.self) c.end_line.new.self.list c.given_back-self.result c.in_ok-_k.ensures
     (c.write_own-wrote.ensures.count ∙ ap (λ (o : Option ℕ). cond (is_some o) 1 0) own)
     (c.write_own-wrote.ensures.words ∙ ap (λ (o : Option ℕ). written_to o c.args.a ws) own)
     (ap processors c.end_line.ensures.order ∙ ap processors_of same)

@@ -63,15 +63,15 @@ returns-then-takes_store g c =
       };
     }
 
-pub overflow-add-k : goal.overflow-add-k
-overflow-add-k g c =
+pub overflow_add-k : goal.overflow_add-k
+overflow_add-k g c =
     let s = c.args.self.now in
     let ps = processors_of s.caches in
     let y = ok-access (length (g.M.Memory.words s.memory)) ps (table_of s.caches) c.args.p c.args.a c.in_ok-k.k c.in_ok-k.ensures in
     omega (arith, (placed ps c.args.p c.in_ok-k.k y.0).within, few s.caches.order c.requires.caches.order)
 
-pub overflow-add-k-2 : goal.overflow-add-k-2
-overflow-add-k-2 g c =
+pub overflow_add-k-2 : goal.overflow_add-k-2
+overflow_add-k-2 g c =
     let s = c.args.self.now in
     let ps = processors_of s.caches in
     let y = ok-access (length (g.M.Memory.words s.memory)) ps (table_of s.caches) c.args.p c.args.a c.in_ok-k.k c.in_ok-k.ensures in
@@ -91,8 +91,8 @@ write-requires g c =
     let y = ok-access (length (g.M.Memory.words s.memory)) (processors_of s.caches) (table_of s.caches) c.args.p c.args.a c.in_ok-k.k c.in_ok-k.ensures in
     (c.cut_last.ensures.kept, y.1)
 
-pub overflow-cast-result : goal.overflow-cast-result
-overflow-cast-result g c =
+pub overflow_cast-result : goal.overflow_cast-result
+overflow_cast-result g c =
     let s = c.args.self.now in
     let ps = processors_of s.caches in
     let y = ok-access (length (g.M.Memory.words s.memory)) ps (table_of s.caches) c.args.p c.args.a c.in_ok-k.k c.in_ok-k.ensures in

@@ -19,23 +19,23 @@ use Rattle.snooping.specs.declared.state.LineEvent.TheVariants.{Commit as Commit
 use Rattle.snooping.proofs.Snooped.{turn-refused, turn-commit}
 use Rattle.snooping.proofs.store.SnoopingStore.retire.Goals as goal
 
-pub returns-in_err--k : goal.returns-in_err--k
-returns-in_err--k g c =
+pub returns-in_err-_k : goal.returns-in_err-_k
+returns-in_err-_k g c =
     let s = c.args.self.now in
     let ws = g.M.Memory.words s.memory in
     let ps = processors_of s.caches in
     let t = Commit c.args.p in
     let q = err_from_is_err_and c.from_residual.result c.from_residual.ensures.1 in
-    let law = refused-by (plain_in g.M.Memory.words s) t c.from_residual.result c.in_err--k.field-0.0 (commit_place ps c.args.p) (commit-agrees ws ps (table_of s.caches) c.args.p) c.in_err--k.ensures (q.1 ∙ ap Err q.2) in
-    let turn = turn-refused ws ps s.caches.list c.requires.caches.wide c.requires.caches.order.apart c.requires.fits c.requires.lines s.report t c.from_residual.result c.in_err--k.field-0.0 (q.1 ∙ ap Err q.2) law.0 law.1 in
+    let law = refused-by (plain_in g.M.Memory.words s) t c.from_residual.result c.in_err-_k.field-0.0 (commit_place ps c.args.p) (commit-agrees ws ps (table_of s.caches) c.args.p) c.in_err-_k.ensures (q.1 ∙ ap Err q.2) in
+    let turn = turn-refused ws ps s.caches.list c.requires.caches.wide c.requires.caches.order.apart c.requires.fits c.requires.lines s.report t c.from_residual.result c.in_err-_k.field-0.0 (q.1 ∙ ap Err q.2) law.0 law.1 in
     record { answer = turn.answer; after = turn.after; report = turn.report; beside = refl; kept = c.requires }
 
 pub retire-requires : goal.retire-requires
 retire-requires g c =
     let s = c.args.self.now in
     let ps = processors_of s.caches in
-    let y = ok-commit ps c.args.p c.in_ok--k.-k c.in_ok--k.ensures in
-    let some : 0 < length ps = omega (arith, (placed ps c.args.p c.in_ok--k.-k y.0).within) in
+    let y = ok-commit ps c.args.p c.in_ok-_k.-k c.in_ok-_k.ensures in
+    let some : 0 < length ps = omega (arith, (placed ps c.args.p c.in_ok-_k.-k y.0).within) in
     let same = sym c.write_back-wrote.ensures.caches in
     (subst GoodCaches same c.requires.caches, y.1, subst (λ (t : Caches). 0 < length (processors_of t)) same some)
 
@@ -45,9 +45,9 @@ returns g c =
     let ws = g.M.Memory.words s.memory in
     let ps = processors_of s.caches in
     let same = c.write_back-wrote.ensures.caches in
-    let turn = turn-commit ws ps s.caches.list c.requires.caches.wide c.requires.caches.order.apart c.requires.fits c.requires.lines s.report c.args.p c.in_ok--k.-k c.write_back-wrote.result.0
+    let turn = turn-commit ws ps s.caches.list c.requires.caches.wide c.requires.caches.order.apart c.requires.fits c.requires.lines s.report c.args.p c.in_ok-_k.-k c.write_back-wrote.result.0
     c.write_back-wrote.result.1 (g.M.Memory.words c.write_back-wrote.new.self.memory) (processors_of c.retire.new.self) c.retire.new.self.list c.committed-self.result
-    c.in_ok--k.ensures c.write_back-wrote.ensures.count c.write_back-wrote.ensures.last c.write_back-wrote.ensures.words
+    c.in_ok-_k.ensures c.write_back-wrote.ensures.count c.write_back-wrote.ensures.last c.write_back-wrote.ensures.words
     (c.retire.ensures.order ∙ ap (λ (t : Caches). drop 1 (processors_of t)) same)
     (c.retire.ensures.lines ∙ ap (λ (t : Caches). with_cache (lines_in t) c.args.p (ended CommitLine)) same) c.retire.ensures.kept.wide c.committed-self.ensures in
     record {
