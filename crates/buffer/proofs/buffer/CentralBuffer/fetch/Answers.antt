@@ -25,19 +25,19 @@ seen-requires g c =
     let b = c.args.self.now in
     let ws = g.M.Memory.words b.memory in
     let y = ok-access (length ws) (processors_of b.tasks) (table_of b.tasks) c.args.p c.args.a c.in_ok-k.k c.in_ok-k.ensures in
-    (c.requires, (placed (processors_of b.tasks) c.args.p c.in_ok-k.k y.0).within, y.2)
+    (record { sound_buffer = c.requires; k_in_bounds = (placed (processors_of b.tasks) c.args.p c.in_ok-k.k y.0).within; a_in_bounds = y.2 })
 
 pub put-requires : goal.put-requires
 put-requires g c =
     let b = c.args.self.now in
     let ws = g.M.Memory.words b.memory in
     let y = ok-access (length ws) (processors_of b.tasks) (table_of b.tasks) c.args.p c.args.a c.in_ok-k.k c.in_ok-k.ensures in
-    let same = sym c.seen.ensures.tasks in (
-      subst GoodTasks same c.requires.tasks,
-      y.1,
-      subst (λ (t : Tasks). (x : ℕ) → is_held (table_of t c.args.p x) ≡ true → x % 16 ≡ c.args.a % 16 → x ≡ c.args.a) same
-          (class-free (length ws) (processors_of b.tasks) (table_of b.tasks) c.args.p c.args.a c.requires.fits y.3),
-    )
+    let same = sym c.seen.ensures.tasks in (record {
+      good_tasks = subst GoodTasks same c.requires.tasks;
+      p_bound = y.1;
+      by_index = subst (λ (t : Tasks). (x : ℕ) → is_held (table_of t c.args.p x) ≡ true → x % 16 ≡ c.args.a % 16 → x ≡ c.args.a) same
+          (class-free (length ws) (processors_of b.tasks) (table_of b.tasks) c.args.p c.args.a c.requires.fits y.3);
+    })
 
 pub returns : goal.returns
 returns g c =

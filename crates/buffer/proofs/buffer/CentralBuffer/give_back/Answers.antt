@@ -29,7 +29,7 @@ returns g c =
     let table = table_of b.tasks in
     let same = c.write_own-wrote.ensures.tasks in
     let own : c.version-own.result.own ≡ (table c.args.p c.args.a).own = ap (λ (v : Version). v.own) c.version-own.ensures in
-    let law = serve-replace ws ps table c.requires.tasks.order.apart c.requires.fits c.args.p c.args.a c.in_ok-_k.-k c.write_own-wrote.result
+    let law = serve-replace ws ps table c.requires.tasks.order.apart c.requires.fits c.args.p c.args.a c.in_ok-_k._k c.write_own-wrote.result
     (g.M.Memory.words c.write_own-wrote.new.self.memory) (processors_of c.put.new.self) (table_of c.put.new.self) c.in_ok-_k.ensures
     (c.write_own-wrote.ensures.count ∙ ap (λ (o : Option ℕ). cond (is_some o) 1 0) own)
     (c.write_own-wrote.ensures.words ∙ ap (λ (o : Option ℕ). written_to o c.args.a ws) own)

@@ -41,13 +41,13 @@ put-requires g c =
     let b = c.args.self.now in
     let ps = processors_of b.tasks in
     let ws = g.M.Memory.words b.memory in
-    let y = ok-access (length ws) ps (table_of b.tasks) c.args.p c.args.a c.in_ok-k.k c.in_ok-k.ensures in (
-      c.cut.ensures.kept,
-      y.1,
-      subst (λ (t : Table). (x : ℕ) → is_held (t c.args.p x) ≡ true → x % 16 ≡ c.args.a % 16 → x ≡ c.args.a) (sym c.cut.ensures.table)
+    let y = ok-access (length ws) ps (table_of b.tasks) c.args.p c.args.a c.in_ok-k.k c.in_ok-k.ensures in (record {
+      good_tasks = c.cut.ensures.kept;
+      p_bound = y.1;
+      by_index = subst (λ (t : Table). (x : ℕ) → is_held (t c.args.p x) ≡ true → x % 16 ≡ c.args.a % 16 → x ≡ c.args.a) (sym c.cut.ensures.table)
           (λ x held class. class-free (length ws) ps (table_of b.tasks) c.args.p c.args.a c.requires.fits y.3 x
-          (held-without (table_of b.tasks) (drop (c.len-active.result - c.squashed-hit.result) ps) c.args.p x held) class),
-    )
+          (held-without (table_of b.tasks) (drop (c.len-active.result - c.squashed-hit.result) ps) c.args.p x held) class);
+    })
 
 pub overflow_cast-result : goal.overflow_cast-result
 overflow_cast-result g c =

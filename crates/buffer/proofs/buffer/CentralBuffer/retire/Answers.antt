@@ -22,17 +22,17 @@ returns-in_err-_k g c =
 pub retire-requires : goal.retire-requires
 retire-requires g c =
     let b = c.args.self.now in
-    let y = ok-commit (processors_of b.tasks) c.args.p c.in_ok-_k.-k c.in_ok-_k.ensures in
-    let some : 0 < length (processors_of b.tasks) = omega (arith, (placed (processors_of b.tasks) c.args.p c.in_ok-_k.-k y.0).within) in
+    let y = ok-commit (processors_of b.tasks) c.args.p c.in_ok-_k._k c.in_ok-_k.ensures in
+    let some : 0 < length (processors_of b.tasks) = omega (arith, (placed (processors_of b.tasks) c.args.p c.in_ok-_k._k y.0).within) in
     let same = sym c.write_back-wrote.ensures.tasks in
-    (subst GoodTasks same c.requires.tasks, y.1, subst (λ (t : Tasks). 0 < length (processors_of t)) same some)
+    (record { good_tasks = subst GoodTasks same c.requires.tasks; p_bound = y.1; nonzero = subst (λ (t : Tasks). 0 < length (processors_of t)) same some })
 
 pub returns : goal.returns
 returns g c =
     let b = c.args.self.now in
     let ws = g.M.Memory.words b.memory in
     let same = c.write_back-wrote.ensures.tasks in
-    let law = serve-commit ws (processors_of b.tasks) (table_of b.tasks) c.requires.tasks.order.apart c.requires.fits c.args.p c.in_ok-_k.-k c.write_back-wrote.result
+    let law = serve-commit ws (processors_of b.tasks) (table_of b.tasks) c.requires.tasks.order.apart c.requires.fits c.args.p c.in_ok-_k._k c.write_back-wrote.result
     (g.M.Memory.words c.write_back-wrote.new.self.memory) (processors_of c.retire.new.self) (table_of c.retire.new.self) c.in_ok-_k.ensures
     c.write_back-wrote.ensures.count c.write_back-wrote.ensures.words
     (c.retire.ensures.order ∙ ap (λ (t : Tasks). drop 1 (processors_of t)) same)

@@ -17,14 +17,14 @@ returns-in-Some g c =
       kept = c.requires.sound_buffer.memory;
     }
 
-pub returns-in_ok-read : goal.returns-in_ok-read
-returns-in_ok-read g c =
+pub returns-in_ok-read-in-None : goal.returns-in_ok-read-in-None
+returns-in_ok-read-in-None g c =
     let b = c.args.self.now in
     let vs = versions_at b.tasks c.args.a (take (c.args.k + 1) (processors_of b.tasks)) in
     let ws = g.M.Memory.words b.memory in
     let w = get_or ws c.args.a 0 in
     record {
-      answer = ap Ok (read-inside ws c.args.a c.in_ok-read.field-0 c.requires.a_in_bounds c.in_ok-read.ensures.answer
+      answer = ap Ok (read-inside ws c.args.a c.in_ok-read-in-None.field-0 c.requires.a_in_bounds c.in_ok-read-in-None.ensures.answer
           ∙ (ap (λ (o : Option ℕ). unwrap_or o w) c.in-None.ensures ∙ sym (seen-nearest vs w)));
       words = c.read.ensures.after;
       tasks = refl;

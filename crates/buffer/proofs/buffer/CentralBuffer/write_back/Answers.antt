@@ -22,14 +22,14 @@ write_class-wrote-requires g c =
     let ws = g.M.Memory.words b.memory in
     let at = table_of b.tasks c.args.p in
     let same = sym c.loop-c.invariant.1 in
-    let long : length ws ≡ length (g.M.Memory.words c.loop-c.self.memory) = sym (ap length c.loop-c.invariant.2 ∙ length-laid_over_all (up_to_class at c.loop-c.c) ws) in (
-      c.loop-c.invariant.0,
-      subst GoodTasks same c.requires.sound_buffer.tasks,
-      subst (λ (n : ℕ). Fitting n (processors_of c.loop-c.self.tasks) (table_of c.loop-c.self.tasks)) long
-          (subst (λ (t : Tasks). Fitting (length ws) (processors_of t) (table_of t)) same c.requires.sound_buffer.fits),
-      c.requires.p_bound,
-      omega arith,
-    )
+    let long : length ws ≡ length (g.M.Memory.words c.loop-c.self.memory) = sym (ap length c.loop-c.invariant.2 ∙ length-laid_over_all (up_to_class at c.loop-c.c) ws) in (record {
+      sound = c.loop-c.invariant.0;
+      good_tasks = subst GoodTasks same c.requires.sound_buffer.tasks;
+      fitting = subst (λ (n : ℕ). Fitting n (processors_of c.loop-c.self.tasks) (table_of c.loop-c.self.tasks)) long
+          (subst (λ (t : Tasks). Fitting (length ws) (processors_of t) (table_of t)) same c.requires.sound_buffer.fits);
+      p_bound = c.requires.p_bound;
+      c_bound = omega arith;
+    })
 
 pub loop-c-preserved : goal.loop-c-preserved
 loop-c-preserved g c =

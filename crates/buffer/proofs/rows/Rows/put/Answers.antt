@@ -5,7 +5,7 @@ use Rattle.buffer.proofs.rows.Rows.put.Goals as goal
 
 pub row_for-j-requires : goal.row_for-j-requires
 row_for-j-requires c =
-    (set-good c.args.self.now (c.args.a % 16) c.requires.good_rows (omega arith), c.requires.p_bound, rows-mine c.args.self.now c.args.p c.args.a c.requires.good_rows c.requires.by_index)
+    (record { good_set = set-good c.args.self.now (c.args.a % 16) c.requires.good_rows (omega arith); p_bound = c.requires.p_bound; by_index = rows-mine c.args.self.now c.args.p c.args.a c.requires.good_rows c.requires.by_index })
 
 pub returns : goal.returns
 returns c =
