@@ -31,7 +31,7 @@ pub cut-requires : goal.cut-requires
 cut-requires g c =
     let s = c.args.self.now in
     let y = ok-squash (processors_of s.caches) c.args.p c.in_ok-k.k c.in_ok-k.ensures in
-    (c.requires.caches, omega (arith, (placed (processors_of s.caches) c.args.p c.in_ok-k.k y.0).within))
+    (record { good_caches = c.requires.caches; k_in_bounds = omega (arith, (placed (processors_of s.caches) c.args.p c.in_ok-k.k y.0).within) })
 
 pub overflow_sub-result : goal.overflow_sub-result
 overflow_sub-result g c =

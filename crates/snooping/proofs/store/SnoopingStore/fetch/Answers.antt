@@ -21,12 +21,12 @@ use Rattle.snooping.proofs.store.SnoopingStore.fetch.Goals as goal
 
 pub access-requires : goal.access-requires
 access-requires g c =
-    let s = c.args.self.now in (
-      c.requires.memory,
-      c.requires.caches,
-      c.requires.fits,
-      (laid (g.M.Memory.words s.memory) (processors_of s.caches) s.caches.list c.requires.caches.wide c.requires.caches.order.apart c.requires.fits c.requires.lines s.report).class,
-    )
+    let s = c.args.self.now in (record {
+      sound = c.requires.memory;
+      good_caches = c.requires.caches;
+      fitting = c.requires.fits;
+      tagged = (laid (g.M.Memory.words s.memory) (processors_of s.caches) s.caches.list c.requires.caches.wide c.requires.caches.order.apart c.requires.fits c.requires.lines s.report).class;
+    })
 
 pub returns-in_err-k : goal.returns-in_err-k
 returns-in_err-k g c =
@@ -59,24 +59,24 @@ pub nearest-nearest-requires : goal.nearest-nearest-requires
 nearest-nearest-requires g c =
     let s = c.args.self.now in
     let y = ok-access (length (g.M.Memory.words s.memory)) (processors_of s.caches) (table_of s.caches) c.args.p c.args.a c.in_ok-k.k c.in_ok-k.ensures in
-    (c.requires.caches, omega (arith, (placed (processors_of s.caches) c.args.p c.in_ok-k.k y.0).within))
+    (record { good_caches = c.requires.caches; k_in_bounds = omega (arith, (placed (processors_of s.caches) c.args.p c.in_ok-k.k y.0).within) })
 
 pub supplied-requires : goal.supplied-requires
 supplied-requires g c =
     let s = c.args.self.now in
     let ws = g.M.Memory.words s.memory in
     let ps = processors_of s.caches in
-    let y = ok-access (length ws) ps (table_of s.caches) c.args.p c.args.a c.in_ok-k.k c.in_ok-k.ensures in (
-      c.requires.memory,
-      y.2,
-      λ q e. nearest-low ws ps s.caches.list c.requires.caches.wide c.requires.caches.order.apart c.requires.fits c.requires.lines s.report c.in_ok-k.k c.args.a q (sym c.nearest-nearest.ensures ∙ e),
-    )
+    let y = ok-access (length ws) ps (table_of s.caches) c.args.p c.args.a c.in_ok-k.k c.in_ok-k.ensures in (record {
+      sound = c.requires.memory;
+      a_in_bounds = y.2;
+      by_index = λ q e. nearest-low ws ps s.caches.list c.requires.caches.wide c.requires.caches.order.apart c.requires.fits c.requires.lines s.report c.in_ok-k.k c.args.a q (sym c.nearest-nearest.ensures ∙ e);
+    })
 
 pub fill-requires : goal.fill-requires
 fill-requires g c =
     let s = c.args.self.now in
     let y = ok-access (length (g.M.Memory.words s.memory)) (processors_of s.caches) (table_of s.caches) c.args.p c.args.a c.in_ok-k.k c.in_ok-k.ensures in
-    (subst GoodCaches (sym c.supplied.ensures.caches) c.requires.caches, y.1)
+    (record { good_caches = subst GoodCaches (sym c.supplied.ensures.caches) c.requires.caches; p_bound = y.1 })
 
 pub returns : goal.returns
 returns g c =

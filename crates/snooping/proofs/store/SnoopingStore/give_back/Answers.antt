@@ -39,7 +39,7 @@ returns g c =
     let table = table_of s.caches in
     let same = c.write_own-wrote.ensures.caches in
     let own : c.version-own.result.own ≡ (table c.args.p c.args.a).own = ap (λ (v : Version). v.own) c.version-own.ensures in
-    let turn = turn-replace ws ps s.caches.list c.requires.caches.wide c.requires.caches.order.apart c.requires.fits c.requires.lines s.report c.args.p c.args.a c.in_ok-_k.-k c.write_own-wrote.result
+    let turn = turn-replace ws ps s.caches.list c.requires.caches.wide c.requires.caches.order.apart c.requires.fits c.requires.lines s.report c.args.p c.args.a c.in_ok-_k._k c.write_own-wrote.result
     (g.M.Memory.words c.write_own-wrote.new.self.memory) (processors_of c.end_line.new.self) c.end_line.new.self.list c.given_back-self.result c.in_ok-_k.ensures
     (c.write_own-wrote.ensures.count ∙ ap (λ (o : Option ℕ). cond (is_some o) 1 0) own)
     (c.write_own-wrote.ensures.words ∙ ap (λ (o : Option ℕ). written_to o c.args.a ws) own)

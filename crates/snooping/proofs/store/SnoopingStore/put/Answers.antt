@@ -21,12 +21,12 @@ use Rattle.snooping.proofs.store.SnoopingStore.put.Goals as goal
 
 pub access-requires : goal.access-requires
 access-requires g c =
-    let s = c.args.self.now in (
-      c.requires.memory,
-      c.requires.caches,
-      c.requires.fits,
-      (laid (g.M.Memory.words s.memory) (processors_of s.caches) s.caches.list c.requires.caches.wide c.requires.caches.order.apart c.requires.fits c.requires.lines s.report).class,
-    )
+    let s = c.args.self.now in (record {
+      sound = c.requires.memory;
+      good_caches = c.requires.caches;
+      fitting = c.requires.fits;
+      tagged = (laid (g.M.Memory.words s.memory) (processors_of s.caches) s.caches.list c.requires.caches.wide c.requires.caches.order.apart c.requires.fits c.requires.lines s.report).class;
+    })
 
 pub returns-in_err-k : goal.returns-in_err-k
 returns-in_err-k g c =
@@ -83,13 +83,13 @@ cut_last-requires g c =
     let ps = processors_of s.caches in
     let y = ok-access (length (g.M.Memory.words s.memory)) ps (table_of s.caches) c.args.p c.args.a c.in_ok-k.k c.in_ok-k.ensures in
     let hit = hit-is (table_of s.caches) ps c.in_ok-k.k c.args.a c.squashed-hit.result c.squashed-hit.ensures in
-    (c.requires.caches, omega (arith, squashes-le (table_of s.caches) ps c.args.p c.in_ok-k.k c.args.a y.0, hit))
+    (record { good_caches = c.requires.caches; n_in_bounds = omega (arith, squashes-le (table_of s.caches) ps c.args.p c.in_ok-k.k c.args.a y.0, hit) })
 
 pub write-requires : goal.write-requires
 write-requires g c =
     let s = c.args.self.now in
     let y = ok-access (length (g.M.Memory.words s.memory)) (processors_of s.caches) (table_of s.caches) c.args.p c.args.a c.in_ok-k.k c.in_ok-k.ensures in
-    (c.cut_last.ensures.kept, y.1)
+    (record { good_caches = c.cut_last.ensures.kept; p_bound = y.1 })
 
 pub overflow_cast-result : goal.overflow_cast-result
 overflow_cast-result g c =

@@ -34,10 +34,10 @@ pub retire-requires : goal.retire-requires
 retire-requires g c =
     let s = c.args.self.now in
     let ps = processors_of s.caches in
-    let y = ok-commit ps c.args.p c.in_ok-_k.-k c.in_ok-_k.ensures in
-    let some : 0 < length ps = omega (arith, (placed ps c.args.p c.in_ok-_k.-k y.0).within) in
+    let y = ok-commit ps c.args.p c.in_ok-_k._k c.in_ok-_k.ensures in
+    let some : 0 < length ps = omega (arith, (placed ps c.args.p c.in_ok-_k._k y.0).within) in
     let same = sym c.write_back-wrote.ensures.caches in
-    (subst GoodCaches same c.requires.caches, y.1, subst (λ (t : Caches). 0 < length (processors_of t)) same some)
+    (record { good_caches = subst GoodCaches same c.requires.caches; p_bound = y.1; nonzero = subst (λ (t : Caches). 0 < length (processors_of t)) same some })
 
 pub returns : goal.returns
 returns g c =
@@ -45,7 +45,7 @@ returns g c =
     let ws = g.M.Memory.words s.memory in
     let ps = processors_of s.caches in
     let same = c.write_back-wrote.ensures.caches in
-    let turn = turn-commit ws ps s.caches.list c.requires.caches.wide c.requires.caches.order.apart c.requires.fits c.requires.lines s.report c.args.p c.in_ok-_k.-k c.write_back-wrote.result.0
+    let turn = turn-commit ws ps s.caches.list c.requires.caches.wide c.requires.caches.order.apart c.requires.fits c.requires.lines s.report c.args.p c.in_ok-_k._k c.write_back-wrote.result.0
     c.write_back-wrote.result.1 (g.M.Memory.words c.write_back-wrote.new.self.memory) (processors_of c.retire.new.self) c.retire.new.self.list c.committed-self.result
     c.in_ok-_k.ensures c.write_back-wrote.ensures.count c.write_back-wrote.ensures.last c.write_back-wrote.ensures.words
     (c.retire.ensures.order ∙ ap (λ (t : Caches). drop 1 (processors_of t)) same)

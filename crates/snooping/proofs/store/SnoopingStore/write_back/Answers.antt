@@ -28,14 +28,14 @@ write_line-address-requires g c =
     let at = table_of s.caches c.args.p in
     let same = sym c.loop-c.invariant.1 in
     let long : length ws ≡ length (g.M.Memory.words c.loop-c.self.memory) = sym (ap length c.loop-c.invariant.2 ∙ length-laid_over_all (up_to_class at c.loop-c.c) ws) in
-    let tagged : Tagged (lines_in s.caches) = (laid ws (processors_of s.caches) s.caches.list c.requires.sound_snooping.caches.wide c.requires.sound_snooping.caches.order.apart c.requires.sound_snooping.fits c.requires.sound_snooping.lines s.report).class in (
-      c.loop-c.invariant.0,
-      subst (λ (n : ℕ). Fitting n (processors_of c.loop-c.self.caches) (table_of c.loop-c.self.caches)) long
-          (subst (λ (t : Caches). Fitting (length ws) (processors_of t) (table_of t)) same c.requires.sound_snooping.fits),
-      subst (λ (t : Caches). Tagged (lines_in t)) same tagged,
-      c.requires.p_bound,
-      omega arith,
-    )
+    let tagged : Tagged (lines_in s.caches) = (laid ws (processors_of s.caches) s.caches.list c.requires.sound_snooping.caches.wide c.requires.sound_snooping.caches.order.apart c.requires.sound_snooping.fits c.requires.sound_snooping.lines s.report).class in (record {
+      sound = c.loop-c.invariant.0;
+      fitting = subst (λ (n : ℕ). Fitting n (processors_of c.loop-c.self.caches) (table_of c.loop-c.self.caches)) long
+          (subst (λ (t : Caches). Fitting (length ws) (processors_of t) (table_of t)) same c.requires.sound_snooping.fits);
+      tagged = subst (λ (t : Caches). Tagged (lines_in t)) same tagged;
+      p_bound = c.requires.p_bound;
+      c_bound = omega arith;
+    })
 
 pub loop-c-preserved : goal.loop-c-preserved
 loop-c-preserved g c =

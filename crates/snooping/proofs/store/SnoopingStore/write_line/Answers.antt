@@ -27,7 +27,7 @@ write_own-requires g c =
     let s = c.args.self.now in
     let vs = g.M.Memory.words s.memory in
     let e : has_s (lines_in s.caches c.args.p c.args.c).state ≡ true = ap (λ (x : Line). has_s x.state) (sym c.line-line.ensures) ∙ (sym c.has_s.ensures ∙ c.if-not-has_s.false) in
-    (c.requires.sound, subst (λ (x : Line). x.tag < length vs) (sym c.line-line.ensures) (tag-inside (length vs) (processors_of s.caches) (lines_in s.caches) c.requires.tagged c.requires.fitting c.args.p c.args.c e))
+    (record { sound = c.requires.sound; a_in_bounds = subst (λ (x : Line). x.tag < length vs) (sym c.line-line.ensures) (tag-inside (length vs) (processors_of s.caches) (lines_in s.caches) c.requires.tagged c.requires.fitting c.args.p c.args.c e) })
 
 pub returns : goal.returns
 returns g c =
