@@ -10,7 +10,7 @@ fn a_word_lies_lowest_byte_first_and_the_other_bytes_stay(rt: HostRuntime) -> Re
     assert_eq!(rt; memory.write(1, 0x0403_0201), Ok(()));
     assert_eq!(rt; memory.read(1), Ok(0x0403_0201));
     let back: &[u8] = memory.close();
-    assert_eq!(rt; back, [20, 21, 22, 23, 1, 2, 3, 4, 28, 29, 30]);
+    assert_eq!(rt; back, [20, 21, 22, 23, 1, 2, 3, 4, 28, 29, 30].as_slice());
     Ok(())
 }
 

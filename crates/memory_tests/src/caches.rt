@@ -15,7 +15,7 @@ fn addresses_5_and_69_take_turns_in_one_line(rt: HostRuntime) -> Result<(), Fail
     expected[69] = 6900;
     assert_eq!(rt; writes, [Ok(()), Ok(())]);
     assert_eq!(rt; reads, [Ok(500), Ok(6900), Ok(500), Ok(7)]);
-    assert_eq!(rt; back, expected);
+    assert_eq!(rt; back, expected.as_slice());
     Ok(())
 }
 
@@ -29,7 +29,7 @@ fn the_last_of_several_writes_is_written_back(rt: HostRuntime) -> Result<(), Fai
     let back: &[u32] = cache.close().close();
     assert_eq!(rt; writes, [Ok(()), Ok(()), Ok(())]);
     assert_eq!(rt; read, Ok(32));
-    assert_eq!(rt; back, [1, 2, 32]);
+    assert_eq!(rt; back, [1, 2, 32].as_slice());
     Ok(())
 }
 
@@ -44,7 +44,7 @@ fn reads_alone_leave_the_row_as_it_was(rt: HostRuntime) -> Result<(), Fail> {
     let reads = [cache.read(5), cache.read(69), cache.read(5), cache.read(0)];
     let back: &[u32] = cache.close().close();
     assert_eq!(rt; reads, [Ok(500), Ok(6900), Ok(500), Ok(7)]);
-    assert_eq!(rt; back, before);
+    assert_eq!(rt; back, before.as_slice());
     Ok(())
 }
 
@@ -81,6 +81,6 @@ fn two_caches_over_bytes_carry_every_word_to_its_bytes(rt: HostRuntime) -> Resul
             Ok(0x0807_0605),
         ]
     );
-    assert_eq!(rt; back, expected);
+    assert_eq!(rt; back, expected.as_slice());
     Ok(())
 }

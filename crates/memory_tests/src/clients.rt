@@ -13,8 +13,8 @@ fn copying_into_a_smaller_memory_fills_it(rt: HostRuntime) -> Result<(), Fail> {
     assert_eq!(rt; copy_words(&mut from, &mut to), Ok(2));
     let source: &[u32] = from.close();
     let target: &[u32] = to.close();
-    assert_eq!(rt; source, [1, 2, 3]);
-    assert_eq!(rt; target, [1, 2]);
+    assert_eq!(rt; source, [1, 2, 3].as_slice());
+    assert_eq!(rt; target, [1, 2].as_slice());
     Ok(())
 }
 
@@ -29,8 +29,11 @@ fn copying_into_a_larger_memory_leaves_its_last_words(rt: HostRuntime) -> Result
     assert_eq!(rt; copy_words(&mut from, &mut to), Ok(2));
     let source: &[u32] = from.close();
     let target: &[u8] = to.close();
-    assert_eq!(rt; source, [0x0403_0201, 0x0807_0605]);
-    assert_eq!(rt; target, [1, 2, 3, 4, 5, 6, 7, 8, 9, 9, 9, 9, 9, 9]);
+    assert_eq!(rt; source, [0x0403_0201, 0x0807_0605].as_slice());
+    assert_eq!(rt;
+        target,
+        [1, 2, 3, 4, 5, 6, 7, 8, 9, 9, 9, 9, 9, 9].as_slice()
+    );
     Ok(())
 }
 
@@ -47,7 +50,7 @@ fn differences_are_counted_at_the_addresses_that_both_have(rt: HostRuntime) -> R
     let back: &[u32] = right.close().close();
     assert_eq!(rt; differ, Ok(2));
     assert_eq!(rt; itself, Ok(0));
-    assert_eq!(rt; back, [1, 0, 3, 5, 9]);
+    assert_eq!(rt; back, [1, 0, 3, 5, 9].as_slice());
     Ok(())
 }
 

@@ -33,7 +33,7 @@ fn word_memory_refuses(rt: HostRuntime) -> Result<(), Fail> {
     let mut memory = WordMemory::open(&mut row);
     refuses_past_three(&rt, &mut memory)?;
     let back: &[u32] = memory.close();
-    assert_eq!(rt; back, [10, 20, 30]);
+    assert_eq!(rt; back, [10, 20, 30].as_slice());
     Ok(())
 }
 
@@ -44,7 +44,10 @@ fn byte_memory_refuses(rt: HostRuntime) -> Result<(), Fail> {
     let mut memory = ByteMemory::open(&mut row);
     refuses_past_three(&rt, &mut memory)?;
     let back: &[u8] = memory.close();
-    assert_eq!(rt; back, [1, 2, 3, 4, 5, 6, 7, 8, 9, 10, 11, 12, 13]);
+    assert_eq!(rt;
+        back,
+        [1, 2, 3, 4, 5, 6, 7, 8, 9, 10, 11, 12, 13].as_slice()
+    );
     Ok(())
 }
 
@@ -56,7 +59,7 @@ fn cache_over_words_refuses(rt: HostRuntime) -> Result<(), Fail> {
     let refusals = refuses_past_three(&rt, &mut cache);
     let back: &[u32] = cache.close().close();
     refusals?;
-    assert_eq!(rt; back, [10, 20, 30]);
+    assert_eq!(rt; back, [10, 20, 30].as_slice());
     Ok(())
 }
 
@@ -68,6 +71,9 @@ fn cache_over_bytes_refuses(rt: HostRuntime) -> Result<(), Fail> {
     let refusals = refuses_past_three(&rt, &mut cache);
     let back: &[u8] = cache.close().close();
     refusals?;
-    assert_eq!(rt; back, [1, 2, 3, 4, 5, 6, 7, 8, 9, 10, 11, 12, 13]);
+    assert_eq!(rt;
+        back,
+        [1, 2, 3, 4, 5, 6, 7, 8, 9, 10, 11, 12, 13].as_slice()
+    );
     Ok(())
 }
