@@ -8,8 +8,8 @@ use memory::{Memory, MemoryError, SecondLevel, copy_words};
 
 // Copies the words of one memory into another through a cache over the first, which is taken apart again.
 pub fn copy_from_cache<F: Memory, T: Memory>(from: F, to: &mut T) -> (F, Result<u32, MemoryError>)
-    requires sound { F.Memory.sound from }
-    requires sound_2 { T.Memory.sound to.old }
+    requires from_sound { F.Memory.sound from }
+    requires to_sound { T.Memory.sound to.old }
     ensures answer { result.1 ≡ Ok (shared (F.Memory.words from) (T.Memory.words to.old)) }
     ensures source { F.Memory.words result.0 ≡ F.Memory.words from }
     ensures target { T.Memory.words to.new ≡ copied (shared (F.Memory.words from) (T.Memory.words to.old)) (F.Memory.words from) (T.Memory.words to.old) }
@@ -25,8 +25,8 @@ pub fn copy_from_cache<F: Memory, T: Memory>(from: F, to: &mut T) -> (F, Result<
 
 // Copies the words of one memory into another through two caches over the second, which are taken apart again.
 pub fn copy_into_caches<F: Memory, T: Memory>(from: &mut F, to: T) -> (T, Result<u32, MemoryError>)
-    requires sound { F.Memory.sound from.old }
-    requires sound_2 { T.Memory.sound to }
+    requires from_sound { F.Memory.sound from.old }
+    requires to_sound { T.Memory.sound to }
     ensures answer { result.1 ≡ Ok (shared (F.Memory.words from.old) (T.Memory.words to)) }
     ensures source { F.Memory.words from.new ≡ F.Memory.words from.old }
     ensures target { T.Memory.words result.0 ≡ copied (shared (F.Memory.words from.old) (T.Memory.words to)) (F.Memory.words from.old) (T.Memory.words to) }

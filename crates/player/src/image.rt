@@ -96,7 +96,7 @@ fn check_pairs(n: u32, count: u32, bytes: &[u8]) -> Result<u64, ImageFault>
 // Puts the words of an image that passed the checks into the memory.
 fn lay_image<M: Memory>(memory: &mut M, image: &[u8])
     requires sound { M.Memory.sound memory.old }
-    requires tt_value { Ok tt ≡ load_answer (length (M.Memory.words memory.old)) image.now }
+    requires accepted { Ok tt ≡ load_answer (length (M.Memory.words memory.old)) image.now }
     ensures after { M.Memory.words memory.new ≡ loaded_words (M.Memory.words memory.old) image.now }
     ensures laid { HoldsPairs (pairs_of image.now) (image_words image.now) (M.Memory.words memory.new) }
     ensures outside { (a : ℕ) → OutsidePairs a (pairs_of image.now) → slice_index (M.Memory.words memory.new) a ≡ slice_index (M.Memory.words memory.old) a }

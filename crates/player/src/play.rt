@@ -23,8 +23,8 @@ pub fn play_snooping<M: Memory>(
     answers: &mut RowList<Answer>,
 ) -> (M, Result<u32, PlayerFault>)
     requires sound { M.Memory.sound memory }
-    requires within_2 { Within turns.old }
-    requires within_3 { Within answers.old }
+    requires turns_within { Within turns.old }
+    requires answers_within { Within answers.old }
     ensures performed { Performed (opened (loaded_words (M.Memory.words memory) image.now)) (script_in (M.Memory.words memory) image.now text.now turns.old answers.old) turns.old turns.new answers.old answers.new result.1 (M.Memory.words result.0) }
     ensures within { Within turns.new × Within answers.new }
     ensures beside { M.Memory.spare result.0 ≡ M.Memory.spare memory }
@@ -47,8 +47,8 @@ pub fn play_central<M: Memory>(
     answers: &mut RowList<Answer>,
 ) -> (M, Result<u32, PlayerFault>)
     requires sound { M.Memory.sound memory }
-    requires within_2 { Within turns.old }
-    requires within_3 { Within answers.old }
+    requires turns_within { Within turns.old }
+    requires answers_within { Within answers.old }
     ensures performed { Performed (opened (loaded_words (M.Memory.words memory) image.now)) (script_in (M.Memory.words memory) image.now text.now turns.old answers.old) turns.old turns.new answers.old answers.new result.1 (M.Memory.words result.0) }
     ensures within { Within turns.new × Within answers.new }
     ensures beside { M.Memory.spare result.0 ≡ M.Memory.spare memory }
@@ -74,12 +74,12 @@ pub fn play_both<M: Memory, N: Memory>(
     again: &mut RowList<Turn>,
     buffered: &mut RowList<Answer>,
 ) -> ((M, Result<u32, PlayerFault>), (N, Result<u32, PlayerFault>))
-    requires sound { M.Memory.sound one }
-    requires sound_2 { N.Memory.sound other }
-    requires within_2 { Within turns.old }
-    requires within_3 { Within snooped.old }
-    requires within_4 { Within again.old }
-    requires within_5 { Within buffered.old }
+    requires one_sound { M.Memory.sound one }
+    requires other_sound { N.Memory.sound other }
+    requires turns_within { Within turns.old }
+    requires snooped_within { Within snooped.old }
+    requires again_within { Within again.old }
+    requires buffered_within { Within buffered.old }
     ensures one { Performed (opened (loaded_words (M.Memory.words one) image.now)) (script_in (M.Memory.words one) image.now text.now turns.old snooped.old) turns.old turns.new snooped.old snooped.new result.0.1 (M.Memory.words result.0.0) }
     ensures other { Performed (opened (loaded_words (N.Memory.words other) image.now)) (script_in (N.Memory.words other) image.now text.now again.old buffered.old) again.old again.new buffered.old buffered.new result.1.1 (N.Memory.words result.1.0) }
     ensures alike { M.Memory.words one ≡ N.Memory.words other → free turns.old ≡ free again.old → free snooped.old ≡ free buffered.old → content snooped.old ≡ content buffered.old → (result.0.1 ≡ result.1.1) × (content snooped.new ≡ content buffered.new) × (M.Memory.words result.0.0 ≡ N.Memory.words result.1.0) }
@@ -102,8 +102,8 @@ pub fn play_text<S: VersionStore>(
     answers: &mut RowList<Answer>,
 ) -> Result<u32, PlayerFault>
     requires sound { S.VersionStore.sound store.old }
-    requires within_2 { Within turns.old }
-    requires within_3 { Within answers.old }
+    requires turns_within { Within turns.old }
+    requires answers_within { Within answers.old }
     ensures answer { result ≡ told (text_script (free turns.old) (free answers.old) text.now).answer (active_tasks (S.VersionStore.plain store.new)) }
     ensures turns { Gained turns.old (text_script (free turns.old) (free answers.old) text.now).read turns.new }
     ensures answers { Gained answers.old (answers_of (S.VersionStore.plain store.old) (text_script (free turns.old) (free answers.old) text.now).played) answers.new }
@@ -126,8 +126,8 @@ fn perform<S: VersionStore>(
     answers: &mut RowList<Answer>,
 ) -> (S::Below, Result<u32, PlayerFault>)
     requires sound { S.VersionStore.sound store }
-    requires within_2 { Within turns.old }
-    requires within_3 { Within answers.old }
+    requires turns_within { Within turns.old }
+    requires answers_within { Within answers.old }
     ensures performed { Performed (S.VersionStore.plain store) (text_script (free turns.old) (free answers.old) text.now) turns.old turns.new answers.old answers.new result.1 (S.Below.Memory.words result.0) }
     ensures within { Within turns.new × Within answers.new }
     ensures beside { S.Below.Memory.spare result.0 ≡ S.VersionStore.spare store }
@@ -145,7 +145,7 @@ fn play_each<S: VersionStore>(
     answers: &mut RowList<Answer>,
 ) -> Result<u32, PlayerFault>
     requires sound { S.VersionStore.sound store.old }
-    requires within_2 { Within answers.old }
+    requires answers_within { Within answers.old }
     ensures answer { result ≡ told (places_answer (free answers.old) turns.now) (active_tasks (S.VersionStore.plain store.new)) }
     ensures answers { Gained answers.old (answers_of (S.VersionStore.plain store.old) (take (free answers.old) turns.now)) answers.new }
     ensures after { S.VersionStore.plain store.new ≡ state_after_all (S.VersionStore.plain store.old) (take (free answers.old) turns.now) }

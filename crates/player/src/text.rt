@@ -37,8 +37,8 @@ pub fn read_turns(text: &[u8], turns: &mut RowList<Turn>) -> Result<(), TextFaul
 
 // Takes a field of a line.
 fn read_field(tokens: &mut Tokens) -> Result<u32, TextWhy>
-    requires tokens_bound { end_of tokens.old < 2 ^ 64 }
-    requires tokens_value { part_length (text_left tokens.old) ≡ 0 }
+    requires place_fits { end_of tokens.old < 2 ^ 64 }
+    requires between_parts { part_length (text_left tokens.old) ≡ 0 }
     ensures field { MatchResult result (FieldTaken (text_left tokens.old) (text_left tokens.new)) (NoField (text_left tokens.old)) }
     ensures place { end_of tokens.new ≡ end_of tokens.old }
 {
@@ -54,8 +54,8 @@ fn read_field(tokens: &mut Tokens) -> Result<u32, TextWhy>
 // Takes n fields of a line; those that the line does not have are 0.
 fn read_fields(tokens: &mut Tokens, n: usize) -> Result<[u32; 3], TextWhy>
     requires n_bound { n ≤ 3 }
-    requires tokens_bound { end_of tokens.old < 2 ^ 64 }
-    requires tokens_value { part_length (text_left tokens.old) ≡ 0 }
+    requires place_fits { end_of tokens.old < 2 ^ 64 }
+    requires between_parts { part_length (text_left tokens.old) ≡ 0 }
     ensures fields { MatchResult result (FieldsTaken n (text_left tokens.old) (text_left tokens.new)) (NoFields n (text_left tokens.old)) }
     ensures place { end_of tokens.new ≡ end_of tokens.old }
 {
@@ -68,8 +68,8 @@ fn read_fields(tokens: &mut Tokens, n: usize) -> Result<[u32; 3], TextWhy>
 
 // Takes the end of a line, after which no part may be left.
 fn read_end(tokens: &mut Tokens) -> Result<(), TextWhy>
-    requires tokens_bound { end_of tokens.old < 2 ^ 64 }
-    requires tokens_value { part_length (text_left tokens.old) ≡ 0 }
+    requires place_fits { end_of tokens.old < 2 ^ 64 }
+    requires between_parts { part_length (text_left tokens.old) ≡ 0 }
     ensures end { result ≡ end_answer (parts_left (text_left tokens.old)) (after line_end (text_left tokens.old)) }
     ensures line { OnOk result (after line_end (text_left tokens.old) ≡ Some (text_left tokens.new)) }
     ensures place { end_of tokens.new ≡ end_of tokens.old }
@@ -96,8 +96,8 @@ fn verb_of(token: Token) -> Option<Verb>
 
 // Takes what follows the first token of a line, and gives the line's turn.
 fn read_turn(first: Token, tokens: &mut Tokens) -> Result<Turn, TextWhy>
-    requires tokens_bound { end_of tokens.old < 2 ^ 64 }
-    requires tokens_value { part_length (text_left tokens.old) ≡ 0 }
+    requires place_fits { end_of tokens.old < 2 ^ 64 }
+    requires between_parts { part_length (text_left tokens.old) ≡ 0 }
     ensures turn { result ≡ line_turn (word_seen first.entry) (text_left tokens.old) }
     ensures line { OnOk result (after line_end (text_left tokens.old) ≡ Some (text_left tokens.new)) }
     ensures place { end_of tokens.new ≡ end_of tokens.old }
@@ -112,9 +112,9 @@ fn read_turn(first: Token, tokens: &mut Tokens) -> Result<Turn, TextWhy>
 
 // Takes what follows the first token of a line, and adds the line's turn to the list.
 fn read_line(first: Token, tokens: &mut Tokens, turns: &mut RowList<Turn>) -> Result<(), TextWhy>
-    requires tokens_bound { end_of tokens.old < 2 ^ 64 }
-    requires tokens_value { part_length (text_left tokens.old) ≡ 0 }
-    requires within_2 { Within turns.old }
+    requires place_fits { end_of tokens.old < 2 ^ 64 }
+    requires between_parts { part_length (text_left tokens.old) ≡ 0 }
+    requires turns_within { Within turns.old }
     ensures answer { result ≡ listed_answer (line_turn (word_seen first.entry) (text_left tokens.old)) (content turns.old) (room turns.old) }
     ensures after { content turns.new ≡ listed (line_turn (word_seen first.entry) (text_left tokens.old)) (content turns.old) (room turns.old) }
     ensures row { row_of turns.new ≡ listed_row (line_turn (word_seen first.entry) (text_left tokens.old)) (content turns.old) (room turns.old) (row_of turns.old) }

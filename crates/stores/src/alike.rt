@@ -18,8 +18,8 @@ pub fn play_on_both<M: Memory, N: Memory>(
     snooped: &mut [Answer],
     buffered: &mut [Answer],
 ) -> (M, N)
-    requires sound { M.Memory.sound one }
-    requires sound_2 { N.Memory.sound other }
+    requires one_sound { M.Memory.sound one }
+    requires other_sound { N.Memory.sound other }
     ensures snooped { snooped.new ≡ answers_of (opened (M.Memory.words one)) (take (turns_played turns.now snooped.old) turns.now) ++ drop (turns_played turns.now snooped.old) snooped.old }
     ensures buffered { buffered.new ≡ answers_of (opened (N.Memory.words other)) (take (turns_played turns.now buffered.old) turns.now) ++ drop (turns_played turns.now buffered.old) buffered.old }
     ensures one { M.Memory.words result.0 ≡ memory_words (state_after_all (opened (M.Memory.words one)) (take (turns_played turns.now snooped.old) turns.now)) }

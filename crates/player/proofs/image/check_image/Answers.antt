@@ -2,8 +2,8 @@ use Rattle.std.proofs.lemmas.Result.{err_from_is_err_and}
 use Rattle.player.proofs.Checking.{no-count, too_many, pairs-cut, pair-wrong, wrong-length, right-length}
 use Rattle.player.proofs.image.check_image.Goals as goal
 
-pub returns-in-default : goal.returns-in-default
-returns-in-default c = no-count c.args.n c.args.image.now c.in-default.ensures
+pub returns-in_default : goal.returns-in_default
+returns-in_default c = no-count c.args.n c.args.image.now c.in_default.ensures
 
 pub returns-then-count-gt-MOST_PAIRS : goal.returns-then-count-gt-MOST_PAIRS
 returns-then-count-gt-MOST_PAIRS c =

@@ -6,14 +6,14 @@ use Rattle.player.proofs.image.lay_pairs.Goals as goal
 
 pub lay_pair-rest-requires : goal.lay_pair-rest-requires
 lay_pair-rest-requires g c =
-    let i = c.loop-i.-i in
+    let i = c.loop-i._i in
     let more : c.args.count - i ≡ suc (c.args.count - (i + 1)) = omega arith in
     let inside = first-inside _ _ _ _ _ _ _ more c.in-Some.ensures.0 c.loop-i.invariant.3 in
-    (c.loop-i.invariant.0, inside.0, omega (arith, c.loop-i.invariant.4, first_taken 0 _ _ _ _ _ _ more c.in-Some.ensures.0))
+    record { sound = c.loop-i.invariant.0; pair_in_bounds = inside.0; len_in_bounds = omega (arith, c.loop-i.invariant.4, first_taken 0 _ _ _ _ _ _ more c.in-Some.ensures.0) }
 
 pub loop-i-preserved : goal.loop-i-preserved
 loop-i-preserved g c =
-    let i = c.loop-i.-i in
+    let i = c.loop-i._i in
     let l = c.in-Some.pair.len in
     let vs = words_of c.loop-i.rest.now in
     let more : c.args.count - i ≡ suc (c.args.count - (i + 1)) = omega arith in
@@ -30,5 +30,5 @@ loop-i-preserved g c =
 
 pub returns : goal.returns
 returns g c =
-    let none : c.args.count - c.loop-i.-i ≡ 0 = omega arith in
+    let none : c.args.count - c.loop-i._i ≡ 0 = omega arith in
     record { after = all_laid _ _ _ _ _ none c.loop-i.invariant.1; beside = c.loop-i.invariant.5; kept = c.loop-i.invariant.0 }

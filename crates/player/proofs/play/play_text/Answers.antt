@@ -40,7 +40,7 @@ returns-in_err-read_turns g c =
       );
       after = stay;
       sequential = gained-reads-on s s (text_script (free l₀) (free a₀) text).played (content a₀) (content a₀) none stay;
-      within = (read.within, c.requires.within_3);
+      within = (read.within, c.requires.answers_within);
       beside = refl;
       kept = c.requires.sound;
     }

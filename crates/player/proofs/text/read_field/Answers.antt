@@ -7,7 +7,7 @@ pub returns : goal.returns
 returns c =
     let e = c.next.ensures in
     record {
-      field = field-taken _ c.in-Some.next.at _ c.in-Number.part.now _ (word_seen c.in-Some.next.token) c.number.result c.requires.tokens_value c.in-Some.ensures.token
+      field = field-taken _ c.in-Some.next.at _ c.in-Number.part.now _ (word_seen c.in-Some.next.token) c.number.result c.requires.between_parts c.in-Some.ensures.token
           (ap word_seen c.in-Number.is) e.text c.number.ensures;
       place = e.place;
     }

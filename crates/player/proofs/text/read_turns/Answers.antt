@@ -11,11 +11,12 @@ use Rattle.player.proofs.text.read_turns.Goals as goal
 
 pub read_line-requires : goal.read_line-requires
 read_line-requires c =
-    let e = c.in-Some.ensures in (
-      omega (arith, e.place, c.loop-first.invariant.3),
-      ap part_length e.text ∙ (after-part c.loop-first.tokens.rest.now).2,
-      c.loop-first.invariant.2,
-    )
+    let e = c.in-Some.ensures in
+    record {
+      place_fits = omega (arith, e.place, c.loop-first.invariant.3);
+      between_parts = ap part_length e.text ∙ (after-part c.loop-first.tokens.rest.now).2;
+      turns_within = c.loop-first.invariant.2;
+    }
 
 pub returns-in-Err : goal.returns-in-Err
 returns-in-Err c =
@@ -44,7 +45,7 @@ pub loop-first-smaller : goal.loop-first-smaller
 loop-first-smaller c =
     let s = c.loop-first.tokens.rest.now in
     let e = c.in-Some.ensures in
-    let f = c.in-default-read_line.ensures in
+    let f = c.in_default-read_line.ensures in
     let rest : after line_end s ≡ Some c.read_line.new.tokens.rest.now = sym (after-part s).1 ∙ (ap (after line_end) (sym e.text) ∙ f.line) in
     omega (arith, after-length line_end s c.read_line.new.tokens.rest.now rest)
 
@@ -61,7 +62,7 @@ loop-first-preserved c =
     let all = text_read (free l₀) c.args.text.now in
     let e = c.in-Some.ensures in
     let v = verb-taken at first.at s (word_seen first.token) e.token in
-    let f = c.in-default-read_line.ensures in
+    let f = c.in_default-read_line.ensures in
     let rest : after line_end s ≡ Some t'.rest.now = sym (after-part s).1 ∙ (ap (after line_end) (sym e.text) ∙ f.line) in
     let place : t'.at + length t'.rest.now ≡ at + length s = f.place ∙ e.place in
     let d = line-goes-on at t'.at (room l) s t'.rest.now (content l₀) (row_of l₀) (content l) (row_of l) (content l') (row_of l')
@@ -79,7 +80,7 @@ returns c =
     let l = c.loop-first.turns in
     let l₀ = c.args.turns.now in
     let d = text-ends c.loop-first.tokens.at (free l) s (content l₀) (row_of l₀) (content l) (row_of l) (text_read (free l₀) c.args.text.now)
-    c.in-default.ensures.token c.loop-first.invariant.0 in
+    c.in_default.ensures.token c.loop-first.invariant.0 in
     record {
       answer = d.0;
       after = d.1;
