@@ -1,16 +1,16 @@
 -- Laws of the central buffer's rows: what a changed row does to the table, that a set always has room, and that the rows
 -- stay good.
-use Rattle.std.proofs.Common.{◌≡◌, ℕ, zero, suc, ◌%◌, ◌<◌, ◌≤◌, Bool, true, false, cond, not, ◌&&◌, ◌||◌, eqb, ◌≢◌, ◌⊎◌, List, [], ◌∷◌, ◌++◌, map, length, get_or, set, replicate, is_some, Some, None, Option, sym, refl, ap, ◌∙◌, subst, inl, inr, ⊎_elim, arith}
+use Rattle.std.proofs.Common.{◌≡◌, ℕ, zero, suc, ◌%◌, ◌<◌, ◌≤◌, Bool, true, false, cond, ◌&&◌, ◌||◌, eqb, ◌≢◌, ◌⊎◌, List, [], ◌∷◌, map, length, get_or, set, replicate, Some, None, Option, sym, refl, ap, ◌∙◌, subst, inl, inr, ⊎_elim, arith}
 use mathlib.Core.Path.{fun_ext}
 use Rattle.std.proofs.lemmas.List.{length-set, length-map, length-replicate, get_or-set_same, get_or-set_other, get_or_past, get_or-map, get_or-replicate}
-use Rattle.std.proofs.lemmas.Bool.{eqb-true, eqb-false, eq-eqb, ne_eqb, cases_eq, cases_lt, cond-true, cond-false, true≢false, not-true, not-false, or_cases, and_parts, or_parts}
+use Rattle.std.proofs.lemmas.Bool.{eqb-true, eqb-false, eq-eqb, ne_eqb, cases_eq, cases_lt, cond-true, cond-false, true≢false, not-true, not-false, and_parts}
 use Rattle.std.proofs.lemmas.Bool.Decides.{nat_tests}
 use Rattle.buffer.specs.declared.rows.Row.{Row}
 use Rattle.buffer.specs.declared.rows.Rows.{Rows}
 use Rattle.versions.specs.declared.version.Version.{Version}
 use Rattle.versions.specs.Cuts.{any_below}
-use Rattle.versions.specs.Versions.{no_version, is_own, is_held}
-use Rattle.versions.specs.Tables.{Table, empty_table, with_version, without, HeldIn}
+use Rattle.versions.specs.Versions.{no_version, is_held}
+use Rattle.versions.specs.Tables.{empty_table, with_version, without, HeldIn}
 use Rattle.versions.proofs.Classes.{unheld-none, any_below-never}
 use Rattle.buffer.specs.Rows.{no_row, in_row, row_with, is_free, in_rows, held_address, first_place, without_row, table_in, GoodSet, GoodRows, RowFor}
 

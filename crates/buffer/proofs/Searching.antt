@@ -1,11 +1,10 @@
 -- The steps of searching and of clearing the rows of a set, one row after another.
-use Rattle.std.proofs.Common.{◌≡◌, ℕ, suc, ◌+◌, ◌<◌, ◌≤◌, Bool, true, false, cond, ◌&&◌, eqb, List, [], ◌∷◌, ◌++◌, map, length, get_or, take, drop, set, Some, None, Option, sym, refl, ap, ◌∙◌, arith}
-use Rattle.std.proofs.lemmas.List.{drop_more, drop_all, take_all, append-nil, take_more, map-append, append_assoc, set_at, get_or_at, length-map, length-take-le}
+use Rattle.std.proofs.Common.{◌≡◌, ℕ, suc, ◌+◌, ◌<◌, ◌≤◌, Bool, true, false, cond, ◌&&◌, eqb, List, length, get_or, drop, Some, None, sym, ap, ◌∙◌, arith}
+use Rattle.std.proofs.lemmas.List.{drop_more, drop_all}
 use Rattle.std.proofs.lemmas.Bool.{cond-true, cond-false}
 use Rattle.buffer.specs.declared.rows.Row.{Row}
-use Rattle.versions.specs.declared.version.Version.{Version}
 use Rattle.versions.specs.Versions.{no_version, is_held}
-use Rattle.buffer.specs.Rows.{no_row, in_row, in_rows, held_address, first_place, without_row}
+use Rattle.buffer.specs.Rows.{no_row, in_row, in_rows, held_address, first_place}
 
 module _ (f : Row → Bool) (rs : List Row) (j : ℕ) (so_far : first_place f rs ≡ j + first_place f (drop j rs)) where
   place_at : j < length rs → first_place f rs ≡ j + cond (f (get_or rs j no_row)) 0 (suc (first_place f (drop (j + 1) rs)))

@@ -1,5 +1,5 @@
 -- The rows of the central buffer: a row has an address and a version for each processor; address a lives in set a mod 16.
-use Rattle.std.specs.Prelude.{◌≡◌, ℕ, suc, ◌%◌, ◌<◌, Bool, true, cond, not, ◌&&◌, ◌⊎◌, List, [], ◌∷◌, map, length, get_or, set, Some, None, Option, ◌==◌, slice_index_or, slice_set}
+use Rattle.std.specs.Prelude.{◌≡◌, ℕ, suc, ◌%◌, ◌<◌, Bool, true, cond, not, ◌&&◌, ◌⊎◌, List, [], ◌∷◌, length, get_or, Some, None, Option, ◌==◌, slice_index_or, slice_set}
 use Rattle.buffer.specs.declared.rows.Row.{Row}
 use Rattle.buffer.specs.declared.rows.Rows.{Rows}
 use Rattle.versions.specs.declared.version.Version.{Version}

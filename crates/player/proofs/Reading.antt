@@ -12,7 +12,7 @@ use Rattle.player.specs.Lines.{turn_of, turn_of_parts, turn_of_verb, unfinished}
 use Rattle.player.specs.Lists.{is_full, push_answer}
 use Rattle.player.specs.Splits.{line_end, space, split, begun}
 use Rattle.player.specs.Text.{Reading, refused_at, turn_before, line_read, lines_read, written}
-use Rattle.player.specs.Tokens.{Word, verb, end, PlacedWord, part, after_part, verb_token}
+use Rattle.player.specs.Tokens.{Word, verb, PlacedWord, part, after_part, verb_token}
 use Rattle.player.specs.Verbs.{verb_named}
 use Rattle.player.proofs.Following.{split-first, part-is, after-part, word_in}
 

@@ -1,10 +1,10 @@
 -- Lines that are as the words, the order and the versions demand stay so when tasks are squashed, the head commits, or
 -- the head replaces an address.
-use Rattle.std.proofs.Common.{◌≡◌, ℕ, zero, suc, ◌+◌, ◌-◌, ◌%◌, ◌<◌, ◌≤◌, Bool, true, false, cond, not, ◌&&◌, ◌||◌, eqb, ◌⊎◌, List, [], ◌∷◌, ◌++◌, map, length, get_or, take, drop, set, is_some, Some, None, Option, unwrap_or, sym, refl, ap, ◌∙◌, subst, inl, inr, ⊎_elim, arith}
+use Rattle.std.proofs.Common.{◌≡◌, ℕ, zero, suc, ◌%◌, ◌<◌, ◌≤◌, Bool, true, false, cond, ◌&&◌, eqb, ◌⊎◌, List, ◌∷◌, ◌++◌, map, length, get_or, take, drop, set, is_some, Some, None, Option, unwrap_or, sym, refl, ap, ◌∙◌, inl, inr, ⊎_elim, arith}
 use mathlib.Core.Path.{fun_ext}
 use Rattle.std.specs.Option.{option_map}
 use Rattle.std.proofs.lemmas.List.{drop-append-le, take-take, take-append-drop, get_or-set_same, get_or-set_other}
-use Rattle.std.proofs.lemmas.Bool.{eqb-true, eqb-false, eq-eqb, ne_eqb, cases_eq, cases_lt, cond-true, cond-false, true≢false, and_left, and_right, and_from}
+use Rattle.std.proofs.lemmas.Bool.{eqb-true, eqb-false, eq-eqb, ne_eqb, cases_eq, cond-true, cond-false, true≢false, and_right, and_from}
 use Rattle.versions.specs.declared.version.Version.{Version}
 use Rattle.versions.specs.Orders.{place_in, Apart}
 use Rattle.versions.specs.Plain.{laid_over_all, written_to}
@@ -17,10 +17,10 @@ use Rattle.snooping.specs.Lines.{blank, version_in, version_at, pointer_to, unli
 use Rattle.versions.proofs.Classes.{unheld-none}
 use Rattle.versions.proofs.Fits.{without_all-value, front_out, none-join, none-drop}
 use Rattle.versions.proofs.Holding.{get_or-laid_over_all}
-use Rattle.versions.proofs.Ordering.{place_none, none-some}
+use Rattle.versions.proofs.Ordering.{none-some}
 use Rattle.versions.proofs.Tabling.{placed}
 use Rattle.snooping.proofs.Holders.{holder-same, holder-append, holder-found, same-column, take-place, place-value}
-use Rattle.snooping.proofs.Keeping.{Laid, shows, shown}
+use Rattle.snooping.proofs.Keeping.{Laid, shows}
 
 blank_none : (b : ℕ) → version_at blank b ≡ no_version
 blank_none b = go (eqb 0 b)

@@ -1,19 +1,19 @@
 -- Lines that are as the words, the order and the versions demand stay so through every turn.
-use Rattle.std.proofs.Common.{◌≡◌, ℕ, zero, suc, ◌+◌, ◌-◌, ◌%◌, ◌<◌, ◌≤◌, Bool, true, false, cond, not, ◌&&◌, ◌||◌, eqb, ◌⊎◌, List, [], ◌∷◌, ◌++◌, map, length, get_or, take, drop, set, is_some, Some, None, Option, unwrap_or, sym, refl, ap, ◌∙◌, subst, inl, inr, ⊎_elim, arith}
+use Rattle.std.proofs.Common.{◌≡◌, ℕ, suc, ◌%◌, ◌<◌, ◌≤◌, Bool, true, false, cond, ◌&&◌, eqb, ◌⊎◌, List, [], ◌∷◌, ◌++◌, map, get_or, take, drop, Some, None, Option, sym, refl, ap, ◌∙◌, subst, inl, inr, ⊎_elim, arith}
 use mathlib.Core.Path.{fun_ext}
 use Rattle.std.specs.Option.{option_map}
-use Rattle.std.proofs.lemmas.List.{drop-append-le, take-append-le, length-take-le, take-take, drop-drop, take-append-drop, map-append}
+use Rattle.std.proofs.lemmas.List.{drop-append-le, take-append-le}
 use Rattle.std.proofs.lemmas.Bool.{eqb-true, eqb-false, eq-eqb, ne_eqb, cases_eq, cases_lt, cond-true, cond-false, true≢false, and_left, and_right, and_from}
 use Rattle.versions.specs.declared.version.Version.{Version}
 use Rattle.versions.specs.Orders.{place_in, Apart}
-use Rattle.versions.specs.Tables.{Table, with_version, without, without_all, Fitting}
-use Rattle.versions.specs.Versions.{no_version, is_held, is_own, laid_over, seen_by}
+use Rattle.versions.specs.Tables.{Table, with_version}
+use Rattle.versions.specs.Versions.{no_version, is_held, is_own, seen_by}
 use Rattle.snooping.specs.declared.line.Line.{Line}
-use Rattle.snooping.specs.Caches.{LineTable, table_by, with_line, with_cache, holder, or_else, cut_to}
-use Rattle.snooping.specs.Lines.{blank, version_in, version_at, with_next, pointer_to, unlinked}
+use Rattle.snooping.specs.Caches.{LineTable, table_by, with_line, holder, or_else}
+use Rattle.snooping.specs.Lines.{blank, version_in, version_at, with_next}
 use Rattle.versions.proofs.Classes.{unheld-none}
-use Rattle.versions.proofs.Tabling.{placed, none-past}
-use Rattle.snooping.proofs.Holders.{holder-same, holder-append, holder-found, holder-none, same-column, seen-append, seen-owns, take-place, place-once, same_place}
+use Rattle.versions.proofs.Tabling.{placed}
+use Rattle.snooping.proofs.Holders.{holder-same, holder-append, same-column, take-place, place-once, same_place}
 
 -- a line that holds nothing is blank; the tag of one that does belongs to the line; its pointer names the next task in
 -- order that holds the address; and a copy has the word that the tasks before see

@@ -1,12 +1,10 @@
 -- Lines that are as the words, the order and the versions demand are exactly the lines that the plain state determines.
-use Rattle.std.proofs.Common.{◌≡◌, ℕ, zero, suc, ◌+◌, ◌-◌, ◌%◌, ◌<◌, ◌≤◌, Bool, true, false, cond, not, ◌&&◌, ◌||◌, eqb, ◌⊎◌, List, [], ◌∷◌, ◌++◌, map, length, get_or, take, drop, is_some, Some, None, Option, unwrap_or, sym, refl, ap, ◌∙◌, subst, inl, inr, ⊎_elim, arith}
-use mathlib.Core.Path.{fun_ext}
+use Rattle.std.proofs.Common.{◌≡◌, ℕ, zero, suc, ◌%◌, ◌<◌, ◌≤◌, Bool, true, false, cond, ◌&&◌, ◌||◌, eqb, ◌⊎◌, List, [], ◌∷◌, map, length, get_or, take, drop, is_some, Some, None, Option, unwrap_or, sym, refl, ap, ◌∙◌, inl, inr, ⊎_elim, arith}
 use Rattle.std.specs.List.{range_with_len}
 use Rattle.std.specs.Option.{option_map}
 use Rattle.std.proofs.lemmas.List.FromFn.{length-map-range_with_len, get_or-map-range_with_len}
 use Rattle.std.proofs.lemmas.List.{map-append, get_or_past, ext_get_or}
-use Rattle.std.proofs.lemmas.Bool.{eqb-true, eqb-false, eq-eqb, ne_eqb, cases_eq, cases_lt, cond-true, cond-false, true≢false, and_from, and_parts}
-use Rattle.versions.specs.declared.turn.Turn.TheVariants.{Load}
+use Rattle.std.proofs.lemmas.Bool.{eqb-true, eqb-false, cases_lt, cond-false, true≢false}
 use Rattle.versions.specs.declared.version.Version.{Version}
 use Rattle.versions.specs.Cuts.{up_to, past}
 use Rattle.versions.specs.Orders.{place_in, Apart}
@@ -19,7 +17,7 @@ use Rattle.snooping.specs.declared.state.LineState.{LineState}
 use Rattle.snooping.specs.declared.state.LineState.TheVariants.{Invalid, Loaded, Stored, Both}
 use Rattle.snooping.specs.Caches.{LineTable, no_cache, line_in, Wide, table_by, first_that, holder}
 use Rattle.snooping.specs.Layout.{of_class, held_in, next_holder, line_for, line_of, lines_of}
-use Rattle.snooping.specs.Lines.{blank, version_in, version_at}
+use Rattle.snooping.specs.Lines.{blank, version_in}
 use Rattle.snooping.specs.States.{has_l, has_s, with_bits}
 use Rattle.versions.proofs.Ordering.{place_none, none-some, apart_below}
 use Rattle.versions.proofs.Tabling.{placed, task_on-is, past_is, given-load}

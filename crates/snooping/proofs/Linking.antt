@@ -1,17 +1,16 @@
 -- The lines of one address pointed anew, each to the next in task order: what that makes of each line.
-use Rattle.std.proofs.Common.{◌≡◌, ℕ, zero, suc, ◌+◌, ◌-◌, ◌%◌, ◌<◌, ◌≤◌, Bool, true, false, cond, ◌&&◌, eqb, List, [], ◌∷◌, length, get_or, drop, is_some, Some, None, Option, sym, refl, ap, ◌∙◌, subst, arith}
+use Rattle.std.proofs.Common.{◌≡◌, ℕ, suc, ◌+◌, ◌-◌, ◌%◌, ◌<◌, ◌≤◌, Bool, true, false, cond, ◌&&◌, eqb, List, [], ◌∷◌, length, get_or, drop, Some, None, Option, sym, refl, ap, ◌∙◌, arith}
 use mathlib.Core.Path.{fun_ext}
 use Rattle.std.specs.Option.{option_map}
 use Rattle.std.proofs.lemmas.List.{drop_more, drop_all}
-use Rattle.std.proofs.lemmas.Bool.{eqb-true, eqb-false, eq-eqb, cond-true, cond-false, true≢false, and_left, and_right}
-use Rattle.versions.specs.declared.version.Version.{Version}
+use Rattle.std.proofs.lemmas.Bool.{eqb-true, eqb-false, eq-eqb, cond-true, cond-false, and_left, and_right}
 use Rattle.versions.specs.Orders.{place_in, Apart}
 use Rattle.versions.specs.Tables.{Table}
 use Rattle.versions.specs.Versions.{is_held}
 use Rattle.versions.proofs.Ordering.{place_none}
 use Rattle.snooping.specs.declared.line.Line.{Line}
 use Rattle.snooping.specs.Caches.{LineTable, table_by, with_line, holder, linked, relinked}
-use Rattle.snooping.specs.Lines.{blank, version_at, with_next}
+use Rattle.snooping.specs.Lines.{version_at, with_next}
 
 -- what does not look at pointers does not see a link
 module _ {B : Type 0} (F : Line → B) (blind : (x : Line) (n : Option ℕ) → F (with_next x n) ≡ F x) where

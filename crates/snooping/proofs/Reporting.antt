@@ -1,14 +1,12 @@
 -- The report of a turn, said of an order of processors and a table of versions.
-use Rattle.std.proofs.Common.{◌≡◌, ℕ, zero, suc, ◌+◌, ◌-◌, ◌%◌, ◌<◌, ◌≤◌, Bool, true, false, cond, not, ◌&&◌, ◌||◌, List, [], ◌∷◌, ◌++◌, map, length, get_or, take, drop, is_some, Some, None, Ok, Err, Option, Result, sym, refl, ap, ◌∙◌, subst, arith}
-use Rattle.std.proofs.lemmas.Bool.{cond-true, cond-false, true≢false}
+use Rattle.std.proofs.Common.{◌≡◌, ℕ, suc, Bool, true, false, cond, not, ◌&&◌, ◌||◌, List, [], ◌∷◌, map, length, take, drop, is_some, Some, None, Ok, Err, Option, Result, sym, refl, ap, ◌∙◌, arith}
 use Rattle.memory.specs.Client.{count_below}
 use Rattle.versions.specs.declared.refusal.Refusal.{Refusal}
 use Rattle.versions.specs.declared.turn.Turn.{Turn}
-use Rattle.versions.specs.declared.turn.Turn.TheVariants.{Start, Load, Store, Squash, Commit, Replace}
-use Rattle.versions.specs.declared.version.Version.{Version}
+use Rattle.versions.specs.declared.turn.Turn.TheVariants.{Load, Store, Commit, Replace}
 use Rattle.versions.specs.Cuts.{any, before, past}
 use Rattle.versions.specs.Orders.{place_in, Apart}
-use Rattle.versions.specs.Plain.{Task, Plain, is_on, task_on, refusal_of, given, answer_by, answer_of}
+use Rattle.versions.specs.Plain.{Task, Plain, is_on, refusal_of, given, answer_by, answer_of}
 use Rattle.versions.specs.Tables.{Table, task_by, plain_of}
 use Rattle.versions.specs.Versions.{is_own, is_held}
 use Rattle.versions.proofs.Tabling.{placed, task_on-is, before-is, past_is, given-commit}

@@ -1,10 +1,10 @@
 -- A turn that the snooping store serves: from its changes of words, order and lines to the plain store's answer and state,
 -- the lines of that state, and the report.
-use Rattle.std.proofs.Common.{◌≡◌, ℕ, zero, suc, ◌+◌, ◌-◌, ◌%◌, ◌<◌, ◌≤◌, Bool, true, false, cond, not, ◌&&◌, ◌||◌, eqb, ◌⊎◌, List, [], ◌∷◌, ◌++◌, map, length, get_or, take, drop, is_some, Some, None, Ok, Err, Option, Result, unwrap_or, sym, refl, ap, ◌∙◌, subst, inl, inr, ⊎_elim, add-one, arith}
+use Rattle.std.proofs.Common.{◌≡◌, ℕ, zero, suc, ◌+◌, ◌-◌, ◌%◌, ◌<◌, ◌≤◌, Bool, true, false, cond, not, ◌&&◌, ◌||◌, eqb, List, [], ◌∷◌, ◌++◌, map, length, get_or, take, drop, is_some, Some, None, Ok, Err, Option, Result, unwrap_or, sym, refl, ap, ◌∙◌, subst, ⊎_elim, add-one, arith}
 use mathlib.Core.Path.{fun_ext}
 use Rattle.std.specs.Option.{option_map}
-use Rattle.std.proofs.lemmas.List.{drop-take, take-take, take-append-drop, take_all, drop_all, map-append, length-map, length-drop, length-take-le, get_or-drop}
-use Rattle.std.proofs.lemmas.Bool.{eqb-true, eqb-false, eq-eqb, ne_eqb, cases_eq, cases_lt, cond-true, cond-false, true≢false, and_left, and_right, and_from, or_parts}
+use Rattle.std.proofs.lemmas.List.{drop-take, take-take, take-append-drop, take_all, drop_all, map-append, length-map, length-drop, get_or-drop}
+use Rattle.std.proofs.lemmas.Bool.{eqb-true, eq-eqb, ne_eqb, cases_eq, cases_lt, cond-true, cond-false, true≢false, and_left, and_from}
 use Rattle.memory.specs.Client.{count_below}
 use Rattle.versions.specs.declared.refusal.Refusal.{Refusal}
 use Rattle.versions.specs.declared.turn.Turn.{Turn}
@@ -15,8 +15,8 @@ use Rattle.versions.specs.Plain.{Plain, laid_over_all, written_to, answer_of, st
 use Rattle.versions.specs.Tables.{Table, plain_of, empty_table, with_version, without, without_all, Fitting, access_place, squash_place, commit_place, replace_place}
 use Rattle.versions.specs.Versions.{no_version, is_held, is_own, with_load, with_store, laid_over, seen_by, squashed_by}
 use Rattle.versions.proofs.Classes.{unheld-none}
-use Rattle.versions.proofs.Fits.{fitting-empty, none-join, without_all-value, front_out}
-use Rattle.versions.proofs.Judging.{ok-access, ok-squash, ok-commit, ok-replace}
+use Rattle.versions.proofs.Fits.{none-join, without_all-value, front_out}
+use Rattle.versions.proofs.Judging.{ok-access, ok-commit, ok-replace}
 use Rattle.versions.proofs.Ordering.{apart-push, apart-take, apart-drop, apart_below, none-some}
 use Rattle.versions.proofs.Serving.{Served, class-free, serve-start, serve-load, serve-store, serve-squash, serve-commit, serve-replace}
 use Rattle.versions.proofs.Tabling.{placed, none-past, place-take, squashes, squashes-le}
@@ -31,10 +31,10 @@ use Rattle.snooping.specs.Layout.{lines_of}
 use Rattle.snooping.specs.Lines.{blank, version_in, version_at, with_loaded, with_stored, with_next, ended}
 use Rattle.snooping.specs.Report.{quiet, bus_read, bus_write, written_back, supplied_by, reached, powers, last_own, written_last, report_of, report_after}
 use Rattle.snooping.specs.Snooping.{supplied_word}
-use Rattle.snooping.specs.States.{has_l, has_s, next_state}
+use Rattle.snooping.specs.States.{has_s}
 use Rattle.snooping.proofs.Ending.{cut-table, keep-cut, commit-table, keep-commit, replace-table, keep-replace}
 use Rattle.snooping.proofs.Holders.{holder-same, holder-none, same-column, seen-append, seen-owns, hidden-copy, take-place, place-once, place-value}
-use Rattle.snooping.proofs.Keeping.{Laid, shown, shows, keep-start, mid, mid-table, new-table, keep-change}
+use Rattle.snooping.proofs.Keeping.{Laid, shown, shows, keep-start, mid, mid-table, keep-change}
 use Rattle.snooping.proofs.Laying.{caches-laid, laid-caches, own-word, some-if, last-seen}
 use Rattle.snooping.proofs.Linking.{relinked-same, relinked-class, relinked-unheld, relinked-held, relinked-table}
 use Rattle.snooping.proofs.Reporting.{reported, unreported, report-load, report-store, report-commit, report-replace}

@@ -1,14 +1,12 @@
 -- The lines of a committing task written back, one after another.
-use Rattle.std.proofs.Common.{◌≡◌, ℕ, zero, suc, ◌+◌, ◌%◌, ◌<◌, ◌≤◌, Bool, true, false, cond, ◌||◌, List, length, get_or, set, is_some, Some, None, Option, sym, refl, ap, ◌∙◌, subst, ⊎_elim, add-one, arith}
+use Rattle.std.proofs.Common.{◌≡◌, ℕ, ◌+◌, ◌%◌, ◌<◌, Bool, true, false, cond, ◌||◌, List, length, is_some, Some, None, Option, sym, refl, ap, ◌∙◌, subst, add-one}
 use Rattle.std.proofs.lemmas.Bool.{true≢false}
-use Rattle.memory.specs.Client.{count_below}
 use Rattle.versions.specs.declared.version.Version.{Version}
 use Rattle.versions.specs.Plain.{laid_over_all, written_to}
-use Rattle.versions.specs.Tables.{Table, Fitting, HeldIn, up_to_class, ClassWritten}
-use Rattle.versions.specs.Versions.{no_version, is_held, is_own}
-use Rattle.versions.proofs.Classes.{class-written, class-inside, held_own, held_written}
+use Rattle.versions.specs.Tables.{Fitting, HeldIn, up_to_class, ClassWritten}
+use Rattle.versions.specs.Versions.{is_held, is_own}
+use Rattle.versions.proofs.Classes.{class-written, class-inside}
 use Rattle.versions.proofs.Ordering.{none-some}
-use Rattle.snooping.specs.declared.line.Line.{Line}
 use Rattle.snooping.specs.Caches.{LineTable, Tagged, table_by, or_else}
 use Rattle.snooping.specs.Layout.{of_class}
 use Rattle.snooping.specs.Lines.{version_in, version_at}

@@ -2,7 +2,7 @@
 use Rattle.std.specs.Prelude.{◌≡◌, ℕ, ◌%◌, ◌<◌, Bool, true, cond, ◌&&◌, List, [], ◌∷◌, length, get_or, is_some, Some, None, Option, ◌==◌, slice_index_or}
 use Rattle.versions.specs.Orders.{place_in, processors, Ordered}
 use Rattle.versions.specs.Tables.{Table}
-use Rattle.versions.specs.Versions.{is_held, is_own}
+use Rattle.versions.specs.Versions.{is_held}
 use Rattle.snooping.specs.declared.cache.Cache.{Cache}
 use Rattle.snooping.specs.declared.caches.Caches.{Caches}
 use Rattle.snooping.specs.declared.line.Line.{Line}

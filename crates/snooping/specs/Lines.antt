@@ -1,5 +1,5 @@
 -- One line, and all lines of the four caches.
-use Rattle.std.specs.Prelude.{◌≡◌, ℕ, ◌%◌, Bool, true, false, cond, not, ◌&&◌, List, [], length, is_some, Some, None, Option, ◌==◌}
+use Rattle.std.specs.Prelude.{ℕ, cond, List, is_some, Some, None, Option, ◌==◌}
 use Rattle.snooping.specs.declared.line.Line.{Line}
 use Rattle.snooping.specs.declared.state.LineState.TheVariants.{Invalid}
 use Rattle.snooping.specs.declared.state.LineEvent.{LineEvent}

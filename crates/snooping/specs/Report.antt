@@ -1,5 +1,5 @@
 -- What the bus reports of a turn, from the state of the plain store before it.
-use Rattle.std.specs.Prelude.{ℕ, zero, suc, ◌+◌, ◌%◌, ◌^◌, Bool, cond, not, ◌&&◌, eqb, List, [], ◌∷◌, map, length, Some, None, Option}
+use Rattle.std.specs.Prelude.{ℕ, zero, suc, ◌+◌, ◌^◌, cond, not, ◌&&◌, List, [], ◌∷◌, map, length, Some, None, Option}
 use Rattle.versions.specs.declared.refusal.Refusal.{Refusal}
 use Rattle.versions.specs.declared.turn.Turn.{Turn}
 use Rattle.versions.specs.declared.turn.Turn.TheVariants.{Start, Load, Store, Squash, Commit, Replace}
@@ -12,7 +12,7 @@ use Rattle.snooping.specs.declared.report.BusKind.TheVariants.{Quiet, BusRead, B
 use Rattle.snooping.specs.declared.report.BusReport.{BusReport}
 use Rattle.snooping.specs.declared.report.Supplier.{Supplier}
 use Rattle.snooping.specs.declared.report.Supplier.TheVariants.{Processor, Memory, Nobody}
-use Rattle.snooping.specs.Caches.{last_that, or_else}
+use Rattle.snooping.specs.Caches.{or_else}
 use Rattle.snooping.specs.Layout.{of_class}
 
 -- the numbers by which users know them

@@ -1,5 +1,5 @@
 -- The snooping store over a memory: the plain state that it stands for, and its condition.
-use Rattle.std.specs.Prelude.{◌≡◌, ℕ, ◌<◌, cond, ◌&&◌, List, length, Some, None, Option, nat_lt}
+use Rattle.std.specs.Prelude.{◌≡◌, ℕ, cond, ◌&&◌, List, length, Some, None, Option, nat_lt}
 use Rattle.versions.specs.Plain.{Plain}
 use Rattle.versions.specs.Tables.{plain_of, Fitting}
 use Rattle.snooping.specs.declared.line.Line.{Line}

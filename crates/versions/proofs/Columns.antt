@@ -1,16 +1,16 @@
 -- The tasks of the book as tasks of the plain store, and the columns of their versions: what the last of some tasks
 -- sees, and which later tasks a store squashes.
-use Rattle.std.proofs.Common.{◌≡◌, ℕ, suc, ◌-◌, ◌≤◌, Bool, true, false, cond, not, ◌&&◌, ◌||◌, eqb, ◌⊎◌, List, [], ◌∷◌, ◌++◌, map, length, take, sym, refl, ap, ◌∙◌, inl, inr, arith}
-use Rattle.std.proofs.lemmas.List.{length-append, length-map, append_assoc}
-use Rattle.std.proofs.lemmas.Bool.{or_parts, and_parts, eqb-true, eq-eqb, true≢false, cond-true, cond-false, not-true, or_from}
+use Rattle.std.proofs.Common.{◌≡◌, ℕ, suc, ◌-◌, ◌≤◌, Bool, true, false, cond, not, ◌||◌, eqb, List, [], ◌∷◌, ◌++◌, map, length, take, sym, refl, ap, ◌∙◌, inl, inr, arith}
+use Rattle.std.proofs.lemmas.List.{length-append, length-map}
+use Rattle.std.proofs.lemmas.Bool.{or_parts, and_parts, eqb-true, eq-eqb, true≢false, not-true, or_from}
 use Rattle.std.proofs.lemmas.Bool.Decides.{nat_tests}
 use Rattle.versions.specs.Cuts.{but_last}
 use Rattle.versions.specs.declared.version.Version.{Version}
-use Rattle.versions.specs.Versions.{no_version, is_own, with_load, with_store, laid_over, seen_by, squashed_by}
+use Rattle.versions.specs.Versions.{no_version, is_own, with_load, with_store, seen_by, squashed_by}
 use Rattle.versions.specs.Plain.{Task, fresh, changed_at, column}
 use Rattle.versions.specs.Book.{Access, loaded, stored, replaced, Entry, with_access, all_accesses, after_run, stores_to, replaces, replaced_stores}
 use Rattle.versions.specs.Sequential.{WouldRead, ExactSquash}
-use Rattle.versions.proofs.Cells.{after_run-++, exposes, exposes-++, stores_to-++, noted, version_by, laid_over-run, is_own-run, mark-run, replaced-run}
+use Rattle.versions.proofs.Cells.{after_run-++, exposes, exposes-++, stores_to-++, version_by, laid_over-run, is_own-run, mark-run, replaced-run}
 use Rattle.versions.proofs.Cutting.{but_last-cons, but_last-all}
 
 -- the plain task after an access, and after a run of them

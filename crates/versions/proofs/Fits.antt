@@ -1,13 +1,11 @@
 -- A table keeps fitting its order of processors through every change that a turn makes.
-use Rattle.std.proofs.Common.{◌≡◌, ℕ, zero, suc, ◌%◌, ◌<◌, ◌≤◌, Bool, true, false, cond, not, ◌&&◌, ◌||◌, eqb, ◌⊎◌, List, [], ◌∷◌, ◌++◌, map, length, take, drop, is_some, Some, None, Option, sym, refl, ap, ◌∙◌, subst, inl, inr, ⊎_elim, arith}
+use Rattle.std.proofs.Common.{◌≡◌, ℕ, zero, suc, ◌%◌, ◌<◌, Bool, true, false, cond, ◌&&◌, eqb, ◌⊎◌, List, [], ◌∷◌, ◌++◌, take, drop, is_some, Some, None, Option, sym, refl, ap, ◌∙◌, subst, inl, inr, ⊎_elim, arith}
 use Rattle.std.specs.Option.{option_map}
-use Rattle.std.proofs.lemmas.Bool.{eq-eqb, ne_eqb, eqb-true, eqb-false, cases_eq, cond-true, cond-false, or_from, true≢false}
-use Rattle.std.proofs.lemmas.Bool.Decides.{nat_tests}
+use Rattle.std.proofs.lemmas.Bool.{eq-eqb, ne_eqb, eqb-true, eqb-false, true≢false}
 use Rattle.versions.specs.declared.version.Version.{Version}
 use Rattle.versions.specs.Orders.{place_in, Apart}
 use Rattle.versions.specs.Versions.{no_version, is_held}
-use Rattle.versions.specs.Plain.{Plain}
-use Rattle.versions.specs.Tables.{Table, empty_table, task_by, plain_of, with_version, without, without_all, Fitting}
+use Rattle.versions.specs.Tables.{Table, empty_table, plain_of, with_version, without, without_all, Fitting}
 use Rattle.versions.proofs.Ordering.{place_none, place-none-cons, none-some}
 use Rattle.versions.proofs.Tabling.{tasks-agree, none-past, place-take}
 

@@ -1,19 +1,17 @@
 -- Which turns are refused, said of an order of processors and a table of versions.
-use Rattle.std.proofs.Common.{◌≡◌, ℕ, zero, suc, ◌%◌, ◌<◌, ◌≤◌, Bool, true, false, cond, not, ◌&&◌, ◌||◌, eqb, leb, ◌⊎◌, List, [], ◌∷◌, map, length, take, drop, is_some, Some, None, Ok, Err, Option, Result, sym, refl, ap, ◌∙◌, subst, inl, inr, ⊎_elim, arith}
+use Rattle.std.proofs.Common.{◌≡◌, ℕ, suc, ◌<◌, Bool, true, false, cond, not, eqb, leb, List, [], ◌∷◌, map, length, is_some, Some, None, Ok, Err, Option, Result, sym, refl, ap, ◌∙◌, subst, arith}
 use Rattle.std.specs.Option.{ok_or, option_map}
-use Rattle.std.proofs.lemmas.Bool.{leb-false, eqb-true, eq-eqb, ne_eqb, cases_eq, and_from, and_left, and_right, or_from, or_left, or_right, true≢false, not-false}
-use Rattle.std.proofs.lemmas.Bool.Decides.{nat_tests}
+use Rattle.std.proofs.lemmas.Bool.{leb-false, eqb-true, eq-eqb, ne_eqb, true≢false, not-false}
 use Rattle.versions.specs.declared.refusal.Refusal.{Refusal}
 use Rattle.versions.specs.declared.refusal.Refusal.TheVariants.{NoProcessor, TaskActive, NoTask, NoAddress, ClassTaken, NotHead, IsHead, NotHeld}
 use Rattle.versions.specs.declared.turn.Turn.{Turn}
-use Rattle.versions.specs.declared.turn.Turn.TheVariants.{Start, Load, Store, Squash, Commit, Replace}
-use Rattle.versions.specs.declared.version.Version.{Version}
-use Rattle.versions.specs.Cuts.{any, any_below}
-use Rattle.versions.specs.Orders.{place_in, Apart}
-use Rattle.versions.specs.Versions.{no_version, is_held}
-use Rattle.versions.specs.Plain.{Task, Plain, is_on, task_on, is_head, holds_class, conditions, first_of, refusal_of, given, moved, answer_by, unless_refused, answer_of, state_after}
+use Rattle.versions.specs.declared.turn.Turn.TheVariants.{Start, Load, Squash, Commit, Replace}
+use Rattle.versions.specs.Cuts.{any}
+use Rattle.versions.specs.Orders.{place_in}
+use Rattle.versions.specs.Versions.{is_held}
+use Rattle.versions.specs.Plain.{Task, Plain, is_on, task_on, is_head, holds_class, refusal_of, given, moved, answer_by, unless_refused, answer_of, state_after}
 use Rattle.versions.specs.Tables.{Table, task_by, plain_of, active_place, unless, access_place, squash_place, commit_place, replace_place}
-use Rattle.versions.proofs.Tabling.{Placed, placed, any-task_by, task_on-is}
+use Rattle.versions.proofs.Tabling.{placed, any-task_by, task_on-is}
 
 -- a refused turn; an accepted one
 pub refused-turn : (s : Plain) (t : Turn) (e : Refusal) → refusal_of s t ≡ Some e → (Err e ≡ answer_of s t) × (s ≡ state_after s t)

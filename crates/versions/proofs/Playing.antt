@@ -1,12 +1,12 @@
 -- Lists of turns, played one after another.
-use Rattle.std.proofs.Common.{◌≡◌, ℕ, zero, suc, ◌+◌, ◌<◌, ◌≤◌, min, ◌⊎◌, List, [], ◌∷◌, ◌++◌, length, get_or, take, drop, set, Result, sym, refl, ap, ◌∙◌, subst, inl, inr, ⊎_elim, arith}
-use Rattle.std.proofs.lemmas.List.{append_assoc, append-nil, take_more, drop_more, drop_all, set_at, length-take-le}
+use Rattle.std.proofs.Common.{◌≡◌, ℕ, zero, suc, ◌+◌, ◌<◌, ◌≤◌, ◌⊎◌, List, [], ◌∷◌, ◌++◌, length, get_or, take, drop, set, Result, sym, refl, ap, ◌∙◌, subst, inl, inr, ⊎_elim, arith}
+use Rattle.std.proofs.lemmas.List.{append_assoc, take_more, drop_more, drop_all, set_at, length-take-le}
 use Rattle.std.proofs.lemmas.Bool.{cases_lt}
 use Rattle.versions.specs.declared.refusal.Refusal.{Refusal}
 use Rattle.versions.specs.declared.turn.Turn.{Turn}
 use Rattle.versions.specs.Plain.{Plain, answer_of, state_after, answers_of, state_after_all}
 use Rattle.versions.specs.Played.{turns_played}
-use Rattle.versions.specs.Sequential.{Leads, ReadsOn, event_of, paired}
+use Rattle.versions.specs.Sequential.{Leads, ReadsOn, paired}
 use Rattle.versions.proofs.Reading.{reads_on}
 
 state_after_all-push : (s : Plain) (ts : List Turn) (t : Turn) → state_after_all s (ts ++ t ∷ []) ≡ state_after (state_after_all s ts) t

@@ -1,32 +1,27 @@
 -- A turn that a store with a table of versions serves: from its chain of conditions and its changes of words, order and
 -- table to the plain store's answer and state.
 use Rattle.std.proofs.Common.{◌≡◌, ℕ, suc, ◌+◌, ◌-◌, ◌%◌, ◌<◌, ◌≤◌, Bool, true, false, cond, not, ◌&&◌, eqb, ltb, leb, List, [], ◌∷◌, ◌++◌, map, length, get_or, take, drop, is_some, Some, None, Ok, Err, Option, Result, sym, refl, ap, ◌∙◌, subst, ⊎_elim, add-one, arith}
-use mathlib.Core.Path.{fun_ext}
 use Rattle.memory.specs.Client.{count_below}
 use Rattle.memory.specs.Words.{read_answer}
 use Rattle.memory.specs.declared.error.MemoryError.{MemoryError}
 use Rattle.memory.specs.declared.error.MemoryError.TheVariants.{Address}
-use Rattle.std.specs.Option.{option_map}
 use Rattle.std.proofs.lemmas.List.{length-take-le}
-use Rattle.std.proofs.lemmas.Bool.{eq-eqb, ne_eqb, eqb-true, eqb-false, cases_eq, cond-true, cond-false, lt-leb, le-leb, lt-ltb, leb-true, leb-false, true≢false, and_from}
-use Rattle.std.proofs.lemmas.Bool.Decides.{nat_tests}
+use Rattle.std.proofs.lemmas.Bool.{eq-eqb, ne_eqb, cases_eq, cond-true, cond-false, lt-leb, le-leb, lt-ltb, true≢false}
 use Rattle.versions.specs.declared.refusal.Refusal.{Refusal}
 use Rattle.versions.specs.declared.refusal.Refusal.TheVariants.{NoProcessor, TaskActive}
 use Rattle.versions.specs.declared.turn.Turn.{Turn}
 use Rattle.versions.specs.declared.turn.Turn.TheVariants.{Start, Load, Store, Squash, Commit, Replace}
 use Rattle.versions.specs.declared.version.Version.{Version}
-use Rattle.versions.specs.Cuts.{any_below}
 use Rattle.versions.specs.declared.order.Order.{Order}
 use Rattle.versions.specs.Orders.{place_in, Apart, processors, Ordered}
-use Rattle.versions.specs.Plain.{Task, Plain, holds_class, laid_over_all, written_to, refusal_of, given, moved, answer_of, state_after}
+use Rattle.versions.specs.Plain.{Plain, holds_class, laid_over_all, written_to, refusal_of, given, moved, answer_of, state_after}
 use Rattle.versions.specs.Tables.{Table, task_by, plain_of, with_version, without, without_all, Fitting, access_place, squash_place, commit_place, replace_place}
 use Rattle.versions.specs.Versions.{no_version, is_own, is_held, with_load, with_store, seen_by, squashed_by}
 use Rattle.versions.proofs.Classes.{any_below-never}
 use Rattle.versions.proofs.Fits.{fitting-start, fitting-put, fitting-cut, fitting-retire, plain-cut, plain-retire, without_all-value, held-without, parts_none, front_out}
 use Rattle.versions.proofs.Holding.{length-laid_over_all, length-written_to}
 use Rattle.versions.proofs.Judging.{Agrees, refused-turn, accepted-turn, start-agrees, load-agrees, squash-agrees, commit-agrees, replace-agrees, ok-access, ok-squash, ok-commit, ok-replace}
-use Rattle.versions.proofs.Ordering.{apart-take}
-use Rattle.versions.proofs.Tabling.{Placed, placed, place-take, tasks-same, squashes, squashes-le, given-load, moved-load, given-store, moved_store, given-squash, moved-squash, given-commit, moved-commit, given-replace, moved-replace, given-start, moved-start}
+use Rattle.versions.proofs.Tabling.{place-take, tasks-same, squashes, squashes-le, given-load, moved-load, given-store, moved_store, given-squash, moved-squash, given-commit, moved-commit, given-replace, moved-replace, given-start, moved-start}
 
 -- a turn that a chain of conditions refused
 pub refused-by : (s : Plain) (t : Turn) (r : Result ℕ Refusal) (e : Refusal) (place : Result ℕ Refusal) → Agrees place (refusal_of s t) → Err e ≡ place → r ≡ Err e

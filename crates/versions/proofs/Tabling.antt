@@ -1,20 +1,19 @@
 -- The plain store's turns, said of an order of processors and a table of versions. Every store that keeps such a table
 -- uses these laws.
-use Rattle.std.proofs.Common.{◌≡◌, ℕ, zero, suc, ◌+◌, ◌-◌, ◌%◌, ◌<◌, ◌≤◌, Bool, true, false, cond, not, ◌&&◌, ◌||◌, eqb, leb, List, [], ◌∷◌, ◌++◌, map, length, get_or, take, drop, is_some, Some, None, Option, sym, refl, ap, ◌∙◌, subst, arith}
+use Rattle.std.proofs.Common.{◌≡◌, ℕ, zero, suc, ◌-◌, ◌<◌, ◌≤◌, Bool, true, false, cond, ◌&&◌, ◌||◌, eqb, List, [], ◌∷◌, ◌++◌, map, length, get_or, take, drop, is_some, Some, None, Option, sym, refl, ap, ◌∙◌, subst, arith}
 use mathlib.Core.Path.{fun_ext}
 use Rattle.std.specs.Option.{option_map}
-use Rattle.std.proofs.lemmas.List.{append_assoc, map-append, length-map, length-drop}
-use Rattle.std.proofs.lemmas.Bool.{eq-eqb, ne_eqb, eqb-true, eqb-false, cond-true, cond-false, or_from, true≢false}
-use Rattle.std.proofs.lemmas.Bool.Decides.{nat_tests}
+use Rattle.std.proofs.lemmas.List.{map-append, length-map, length-drop}
+use Rattle.std.proofs.lemmas.Bool.{eq-eqb, eqb-true, cond-true, cond-false}
 use Rattle.memory.specs.Client.{count_below}
 use Rattle.versions.specs.declared.version.Version.{Version}
 use Rattle.versions.specs.declared.turn.Turn.TheVariants.{Start, Load, Store, Squash, Commit, Replace}
 use Rattle.versions.specs.Cuts.{any, before, up_to, past, changed, but_last}
 use Rattle.versions.specs.Orders.{place_in, Apart}
 use Rattle.versions.specs.Versions.{no_version, is_own, with_load, with_store, seen_by, squashed_by}
-use Rattle.versions.specs.Plain.{Task, Plain, fresh, is_on, changed_at, column, task_on, is_head, laid_over_all, written_to, given, moved}
-use Rattle.versions.specs.Tables.{Table, task_by, plain_of, with_version, without, without_all, Fitting}
-use Rattle.versions.proofs.Cutting.{before_at, up_to-at, past-at, changed-at, any_at, but_last-map, but_last-at}
+use Rattle.versions.specs.Plain.{Task, fresh, is_on, changed_at, column, task_on, laid_over_all, written_to, given, moved}
+use Rattle.versions.specs.Tables.{Table, task_by, plain_of, with_version}
+use Rattle.versions.proofs.Cutting.{before_at, up_to-at, past-at, changed-at, but_last-map}
 use Rattle.versions.proofs.Ordering.{place_none, place-none-cons, apart-take}
 use Rattle.versions.proofs.Turning.{task_on-at}
 

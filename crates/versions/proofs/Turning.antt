@@ -1,7 +1,7 @@
 -- The book and the plain store go together through every turn.
-use Rattle.std.proofs.Common.{◌≡◌, ℕ, suc, ◌<◌, ◌≤◌, Bool, true, false, cond, not, ◌&&◌, ◌||◌, eqb, leb, List, [], ◌∷◌, ◌++◌, map, length, get_or, take, drop, set, Some, None, Ok, Err, Option, Result, sym, refl, ap, ◌∙◌, subst, arith}
+use Rattle.std.proofs.Common.{◌≡◌, ℕ, ◌<◌, ◌≤◌, Bool, true, false, cond, not, ◌||◌, eqb, List, [], ◌∷◌, ◌++◌, map, length, get_or, Some, None, Ok, Option, sym, refl, ap, ◌∙◌, subst, arith}
 use Rattle.std.proofs.lemmas.List.{append_assoc, map-append, length-map}
-use Rattle.std.proofs.lemmas.Bool.{or_parts, or_from, and_parts, and_from, and_left, true≢false, not-false, not-true, leb-false}
+use Rattle.std.proofs.lemmas.Bool.{or_parts, or_from, and_from, and_left, true≢false, not-false, leb-false}
 use Rattle.std.proofs.lemmas.Bool.Decides.{nat_tests}
 use Rattle.versions.specs.declared.refusal.Refusal.{Refusal}
 use Rattle.versions.specs.declared.turn.Turn.{Turn}
@@ -9,12 +9,12 @@ use Rattle.versions.specs.declared.turn.Turn.TheVariants.{Start, Load, Store, Sq
 use Rattle.versions.specs.Cuts.{any, before, up_to, past, changed, but_last}
 use Rattle.versions.specs.declared.version.Version.{Version}
 use Rattle.versions.specs.Versions.{no_version, with_load, with_store, seen_by, squashed_by}
-use Rattle.versions.specs.Plain.{Task, Plain, opened, fresh, is_on, changed_at, column, task_on, is_head, laid_over_all, written_to, conditions, first_of, refusal_of, given, moved, answer_by, unless_refused, answer_of, state_after}
-use Rattle.versions.specs.Book.{Access, loaded, stored, replaced, Entry, Book, is_task_of, with_access, as_committed, accepted, fed_one, all_accesses, after_run}
+use Rattle.versions.specs.Plain.{Task, Plain, fresh, is_on, changed_at, column, task_on, is_head, conditions, first_of, refusal_of, given, moved, answer_by, unless_refused, answer_of, state_after}
+use Rattle.versions.specs.Book.{loaded, stored, replaced, Entry, Book, is_task_of, with_access, as_committed, accepted, fed_one, all_accesses, after_run}
 use Rattle.versions.specs.Sequential.{ExactSquash}
-use Rattle.versions.proofs.Cutting.{Found, found, any-++, before_at, up_to-at, past-at, changed-at, but_last-at, but_last-map}
-use Rattle.versions.proofs.Columns.{task_of, version_of, task_of-at, column-task_of, task_of-load, task_of-store, task_of-replace, Clean, squash_count, squashed_by-count, squash_count-le, exact}
-use Rattle.versions.proofs.Holding.{Each, each_left, each_right, Held, clean-past, settled, seen-up_to, held_start, held-load, held-store, held-squash, held-commit, held-replace}
+use Rattle.versions.proofs.Cutting.{found, any-++, before_at, up_to-at, past-at, changed-at, but_last-at, but_last-map}
+use Rattle.versions.proofs.Columns.{task_of, version_of, task_of-at, column-task_of, task_of-load, task_of-store, task_of-replace, squash_count, squashed_by-count, squash_count-le, exact}
+use Rattle.versions.proofs.Holding.{Each, each_right, Held, clean-past, settled, seen-up_to, held_start, held-load, held-store, held-squash, held-commit, held-replace}
 
 -- the book splits into committed tasks and the rest, and the rest are the plain store's tasks
 pub record Together (ws : List ℕ) (b : Book) (s : Plain) : Type 0 where

@@ -1,6 +1,6 @@
 -- What one task has at one address, and what follows from the versions of one address in task order. There is no
 -- address and no processor in here: every store speaks of an address through its column of versions.
-use Rattle.std.specs.Prelude.{ℕ, suc, Bool, true, false, cond, not, ◌||◌, List, [], ◌∷◌, length, is_some, Some, None, Option}
+use Rattle.std.specs.Prelude.{ℕ, suc, Bool, false, cond, not, ◌||◌, List, [], ◌∷◌, length, is_some, Some, None, Option}
 use Rattle.std.specs.Option.{unwrap_or}
 use Rattle.versions.specs.declared.version.Version.{Version}
 

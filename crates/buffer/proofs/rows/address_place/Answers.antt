@@ -1,4 +1,4 @@
-use Rattle.std.proofs.Common.{sym, ◌∙◌, arith}
+use Rattle.std.proofs.Common.{arith}
 use Rattle.std.proofs.lemmas.Bool.{eq-eqb, ne_eqb}
 use Rattle.buffer.proofs.Searching.{place-next, place_found, place-none-left}
 use Rattle.buffer.proofs.rows.address_place.Goals as goal

@@ -1,4 +1,4 @@
-use Rattle.std.proofs.Common.{ℕ, ◌<◌, ◌≤◌, length, sym, subst, arith}
+use Rattle.std.proofs.Common.{ℕ, ◌<◌, ◌≤◌, length, sym, subst}
 use Rattle.buffer.specs.Rows.{RowFor}
 use Rattle.buffer.proofs.Buffering.{row-held, row_same, row-free}
 use Rattle.buffer.proofs.rows.row_for.Goals as goal

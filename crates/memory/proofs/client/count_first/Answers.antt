@@ -1,5 +1,4 @@
-use Rattle.std.proofs.Common.{◌≡◌, ℕ, ◌∙◌, arith}
-use Rattle.memory.specs.Client.{differences}
+use Rattle.std.proofs.Common.{◌∙◌, arith}
 use Rattle.memory.proofs.Copying.{count-different, count-equal}
 use Rattle.memory.proofs.client.count_first.Goals as goal
 use Rattle.memory.proofs.client.count_first.Goals.{then-w-v, else-w-v}

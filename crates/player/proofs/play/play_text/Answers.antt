@@ -5,7 +5,7 @@ use Rattle.versions.specs.declared.turn.Turn.{Turn}
 use Rattle.versions.specs.Plain.{active_tasks, answers_of, state_after_all}
 use Rattle.player.specs.declared.fault.PlayerFault.{PlayerFault}
 use Rattle.player.specs.declared.fault.PlayerFault.TheVariants.{Text}
-use Rattle.player.specs.Lists.{content, free, room, row_of}
+use Rattle.player.specs.Lists.{content, free, row_of}
 use Rattle.player.specs.Scripts.{Script, text_script, told, places_answer}
 use Rattle.player.specs.Text.{text_read, written}
 use Rattle.player.proofs.Adding.{script-refused, script-read, rest-gained, before-rest, gained-reads-on}

@@ -1,4 +1,4 @@
-use Rattle.std.proofs.Common.{◌≡◌, ℕ, ◌<◌, ◌++◌, length, take, drop, Ok, ap, ◌∙◌, subst, arith}
+use Rattle.std.proofs.Common.{◌≡◌, ℕ, ◌<◌, ◌++◌, length, take, drop, Ok, ap, ◌∙◌, arith}
 use Rattle.versions.specs.declared.turn.Turn.TheVariants.{Start}
 use Rattle.versions.specs.Plain.{answers_of, state_after_all}
 use Rattle.versions.proofs.Playing.{state-step, answers-step, played-reads-on}

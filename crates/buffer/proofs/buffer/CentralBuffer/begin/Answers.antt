@@ -1,4 +1,4 @@
-use Rattle.std.proofs.Common.{◌≡◌, ℕ, is_some, Ok, sym, refl, ap, ◌∙◌, subst, arith}
+use Rattle.std.proofs.Common.{is_some, Ok, sym, refl, ap, ◌∙◌, arith}
 use Rattle.versions.specs.declared.refusal.Refusal.TheVariants.{NoProcessor, TaskActive}
 use Rattle.versions.specs.declared.turn.Turn.TheVariants.{Start}
 use Rattle.buffer.specs.Buffers.{plain_in}

@@ -1,10 +1,9 @@
-use Rattle.std.proofs.Common.{◌≡◌, ℕ, ◌+◌, ◌-◌, ◌%◌, ◌<◌, ◌≤◌, true, length, get_or, take, drop, Ok, Err, sym, refl, ap, ◌∙◌, subst, arith}
+use Rattle.std.proofs.Common.{◌≡◌, ℕ, ◌%◌, true, length, Err, sym, refl, ap, ◌∙◌, subst}
 use Rattle.std.proofs.lemmas.Result.{err_from_is_err_and}
 use Rattle.buffer.specs.declared.tasks.Tasks.{Tasks}
 use Rattle.versions.specs.declared.turn.Turn.TheVariants.{Load}
-use Rattle.versions.specs.declared.version.Version.{Version}
 use Rattle.buffer.specs.Buffers.{plain_in}
-use Rattle.versions.specs.Tables.{access_place, Table, with_version}
+use Rattle.versions.specs.Tables.{access_place}
 use Rattle.buffer.specs.Tasks.{processors_of, table_of, GoodTasks}
 use Rattle.versions.specs.Versions.{is_held}
 use Rattle.versions.proofs.Judging.{load-agrees, ok-access}

@@ -1,6 +1,5 @@
-use Rattle.std.proofs.Common.{◌≡◌, ℕ, ◌+◌, ◌-◌, ◌%◌, ◌<◌, ◌≤◌, cond, length, get_or, take, drop, is_some, Ok, Err, Option, sym, refl, ap, ◌∙◌, subst, arith}
+use Rattle.std.proofs.Common.{◌≡◌, ℕ, cond, length, is_some, Err, Option, refl, ap, ◌∙◌}
 use Rattle.std.proofs.lemmas.Result.{err_from_is_err_and}
-use Rattle.buffer.specs.declared.tasks.Tasks.{Tasks}
 use Rattle.versions.specs.declared.turn.Turn.TheVariants.{Replace}
 use Rattle.versions.specs.declared.version.Version.{Version}
 use Rattle.buffer.specs.Buffers.{plain_in}
@@ -8,9 +7,8 @@ use Rattle.versions.specs.Tables.{replace_place, Table, with_version}
 use Rattle.versions.specs.Plain.{written_to}
 use Rattle.buffer.specs.Tasks.{processors_of, table_of}
 use Rattle.versions.specs.Versions.{no_version}
-use Rattle.versions.proofs.Judging.{replace-agrees, ok-replace}
+use Rattle.versions.proofs.Judging.{replace-agrees}
 use Rattle.versions.proofs.Serving.{refused-by, serve-replace}
-use Rattle.versions.proofs.Tabling.{placed}
 use Rattle.buffer.proofs.buffer.CentralBuffer.give_back.Goals as goal
 
 pub returns-in_err-_k : goal.returns-in_err-_k

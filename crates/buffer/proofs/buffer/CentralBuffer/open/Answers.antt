@@ -1,6 +1,6 @@
-use Rattle.std.proofs.Common.{ℕ, List, [], length, sym, refl, ap, ◌∙◌, subst}
-use Rattle.versions.specs.Tables.{Table, empty_table, plain_of, Fitting}
-use Rattle.buffer.specs.Tasks.{processors_of, table_of}
+use Rattle.std.proofs.Common.{ℕ, List, [], length, sym, refl, ap, subst}
+use Rattle.versions.specs.Tables.{plain_of, Fitting}
+use Rattle.buffer.specs.Tasks.{table_of}
 use Rattle.versions.proofs.Fits.{fitting-empty}
 use Rattle.buffer.proofs.buffer.CentralBuffer.open.Goals as goal
 

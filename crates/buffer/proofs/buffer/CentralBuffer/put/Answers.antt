@@ -1,8 +1,6 @@
-use Rattle.std.proofs.Common.{◌≡◌, ℕ, ◌+◌, ◌-◌, ◌%◌, ◌<◌, ◌≤◌, true, length, get_or, take, drop, Ok, Err, sym, refl, ap, ◌∙◌, subst, arith}
+use Rattle.std.proofs.Common.{◌≡◌, ℕ, ◌-◌, ◌%◌, true, length, take, drop, Err, sym, refl, ap, ◌∙◌, subst, arith}
 use Rattle.std.proofs.lemmas.Result.{err_from_is_err_and}
-use Rattle.buffer.specs.declared.tasks.Tasks.{Tasks}
 use Rattle.versions.specs.declared.turn.Turn.TheVariants.{Store}
-use Rattle.versions.specs.declared.version.Version.{Version}
 use Rattle.buffer.specs.Buffers.{plain_in}
 use Rattle.versions.specs.Tables.{access_place, Table, without_all}
 use Rattle.buffer.specs.Tasks.{processors_of, table_of}

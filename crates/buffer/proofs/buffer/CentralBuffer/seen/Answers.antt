@@ -1,4 +1,4 @@
-use Rattle.std.proofs.Common.{ℕ, ◌+◌, get_or, take, Some, None, Ok, Option, unwrap_or, sym, refl, ap, ◌∙◌, arith}
+use Rattle.std.proofs.Common.{ℕ, ◌+◌, get_or, take, Ok, Option, unwrap_or, sym, refl, ap, ◌∙◌}
 use Rattle.buffer.specs.Tasks.{processors_of, versions_at}
 use Rattle.versions.proofs.Serving.{read-inside}
 use Rattle.versions.proofs.Stepping.{seen-nearest}

@@ -1,4 +1,4 @@
-use Rattle.std.proofs.Common.{◌≡◌, ℕ, ◌+◌, ◌<◌, ◌≤◌, List, length, sym, refl, ap, ◌∙◌, subst, arith}
+use Rattle.std.proofs.Common.{◌≡◌, ℕ, ◌+◌, length, sym, refl, ap, ◌∙◌, subst, arith}
 use Rattle.memory.specs.Client.{count_below}
 use Rattle.buffer.specs.declared.tasks.Tasks.{Tasks}
 use Rattle.versions.specs.Plain.{laid_over_all}

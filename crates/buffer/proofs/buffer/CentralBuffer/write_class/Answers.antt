@@ -1,7 +1,7 @@
-use Rattle.std.proofs.Common.{◌≡◌, ℕ, ◌<◌, Bool, cond, List, length, is_some, Some, Option, sym, ap, ◌∙◌, subst}
+use Rattle.std.proofs.Common.{◌≡◌, ℕ, cond, length, is_some, Some, Option, sym, ap, ◌∙◌}
 use Rattle.versions.specs.declared.version.Version.{Version}
 use Rattle.versions.specs.Plain.{written_to}
-use Rattle.buffer.specs.Tasks.{processors_of, table_of}
+use Rattle.buffer.specs.Tasks.{table_of}
 use Rattle.versions.proofs.Classes.{class-written, class-inside, one_at_most}
 use Rattle.versions.proofs.Holding.{length-written_to}
 use Rattle.buffer.proofs.buffer.CentralBuffer.write_class.Goals as goal

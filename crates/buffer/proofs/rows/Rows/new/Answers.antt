@@ -1,4 +1,4 @@
-use Rattle.std.proofs.Common.{List, replicate, refl, ap}
+use Rattle.std.proofs.Common.{replicate, refl, ap}
 use Rattle.versions.specs.declared.version.Version.{Version}
 use Rattle.buffer.proofs.Buffering.{new-table}
 use Rattle.buffer.proofs.rows.Rows.new.Goals as goal

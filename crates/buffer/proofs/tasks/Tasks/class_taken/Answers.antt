@@ -1,5 +1,5 @@
-use Rattle.std.proofs.Common.{◌%◌, Some, None, sym, subst}
-use Rattle.versions.specs.Tables.{task_by, HeldIn}
+use Rattle.std.proofs.Common.{Some, None}
+use Rattle.versions.specs.Tables.{task_by}
 use Rattle.buffer.specs.Tasks.{table_of}
 use Rattle.versions.proofs.Classes.{class-taken}
 use Rattle.buffer.proofs.tasks.Tasks.class_taken.Goals as goal

@@ -1,4 +1,4 @@
-use Rattle.std.proofs.Common.{◌≡◌, ℕ, length, get_or, take, sym, refl, ap, ◌∙◌, subst, arith}
+use Rattle.std.proofs.Common.{get_or, take, refl, ap, ◌∙◌, arith}
 use Rattle.versions.specs.declared.order.Order.{Order}
 use Rattle.versions.specs.Orders.{processors}
 use Rattle.buffer.specs.Rows.{table_in}

@@ -1,6 +1,4 @@
-use Rattle.std.proofs.Common.{ap, ◌∙◌}
-use Rattle.memory.specs.declared.second.Line.TheVariants.{Changed}
-use Rattle.memory.specs.Second.{Cached, lines_over, cached_of}
+use Rattle.memory.specs.Second.{cached_of}
 use Rattle.memory.proofs.Caching.{put-done}
 use Rattle.memory.proofs.second.SecondLevel.put.Goals as goal
 

@@ -1,4 +1,4 @@
-use Rattle.std.proofs.Common.{◌≡◌, ℕ, ◌-◌, ◌<◌, ◌≤◌, length, sym, refl, arith}
+use Rattle.std.proofs.Common.{◌-◌, ◌≤◌, length, sym, refl, arith}
 use Rattle.std.proofs.lemmas.List.{take_all}
 use Rattle.snooping.specs.Caches.{processors_of}
 use Rattle.snooping.proofs.caches.Caches.cut_last.Goals as goal

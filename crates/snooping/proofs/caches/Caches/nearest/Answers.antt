@@ -1,4 +1,4 @@
-use Rattle.std.proofs.Common.{◌≡◌, ℕ, ◌-◌, ◌<◌, ◌≤◌, Bool, length, get_or, sym, ap, ◌∙◌, arith}
+use Rattle.std.proofs.Common.{sym, ap, ◌∙◌, arith}
 use Rattle.versions.specs.Versions.{is_own}
 use Rattle.snooping.specs.Caches.{processors_of, table_of}
 use Rattle.snooping.proofs.Watching.{near-found, near_on}

@@ -1,6 +1,5 @@
-use Rattle.std.proofs.Common.{◌≡◌, ◌-◌, ◌<◌, ◌≤◌, true, length, get_or, sym, refl, ap, ◌∙◌, subst, arith}
+use Rattle.std.proofs.Common.{◌-◌, get_or, sym, refl, ap, ◌∙◌, arith}
 use Rattle.versions.specs.declared.order.Order.{Order}
-use Rattle.versions.specs.declared.version.Version.{Version}
 use Rattle.versions.specs.Orders.{processors}
 use Rattle.versions.specs.Versions.{is_held}
 use Rattle.snooping.specs.Caches.{lines_in, processors_of}

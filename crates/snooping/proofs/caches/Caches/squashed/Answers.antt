@@ -1,4 +1,4 @@
-use Rattle.std.proofs.Common.{◌≡◌, ℕ, ◌<◌, length, get_or, sym, ap, ◌∙◌, arith}
+use Rattle.std.proofs.Common.{◌≡◌, ℕ, get_or, sym, ap, ◌∙◌, arith}
 use Rattle.versions.specs.declared.version.Version.{Version}
 use Rattle.snooping.specs.Caches.{processors_of, table_of}
 use Rattle.versions.specs.Versions.{is_own}

@@ -1,8 +1,8 @@
-use Rattle.std.proofs.Common.{◌≡◌, ℕ, ◌+◌, true, false, is_some, Option, sym, refl, ap, ◌∙◌, subst, arith}
+use Rattle.std.proofs.Common.{◌≡◌, ◌+◌, true, false, is_some, sym, refl, ap, ◌∙◌, subst, arith}
 use Rattle.versions.specs.declared.order.Order.{Order}
 use Rattle.versions.specs.Orders.{place_in, processors, Ordered}
 use Rattle.snooping.specs.declared.caches.Caches.{Caches}
-use Rattle.snooping.specs.Caches.{GoodCaches, LineTable, lines_in, processors_of, with_cache}
+use Rattle.snooping.specs.Caches.{GoodCaches, lines_in, processors_of, with_cache}
 use Rattle.snooping.specs.Lines.{unlinked}
 use Rattle.snooping.proofs.Grids.{cut_below, cut-start, cut-active, cut-idle, cut-all-caches}
 use Rattle.snooping.proofs.caches.Caches.trim.Goals.{in-Some, in-None}

@@ -1,15 +1,6 @@
-use Rattle.std.proofs.Common.{◌≡◌, ℕ, suc, ◌+◌, ◌-◌, ◌%◌, ◌<◌, ◌≤◌, Bool, true, false, cond, not, ◌&&◌, List, [], length, get_or, take, drop, is_some, Some, None, Ok, Err, Option, Result, sym, refl, ap, ◌∙◌, subst, add-one, arith}
-use Rattle.std.proofs.lemmas.Result.{err_from_is_err_and}
-use Rattle.versions.specs.declared.refusal.Refusal.{Refusal}
-use Rattle.versions.specs.declared.version.Version.{Version}
-use Rattle.versions.specs.Orders.{place_in, processors}
-use Rattle.versions.specs.Versions.{is_held, is_own}
-use Rattle.versions.proofs.Tabling.{placed, squashes, squashes-le}
-use Rattle.snooping.specs.declared.cache.Cache.{Cache}
-use Rattle.snooping.specs.declared.caches.Caches.{Caches}
-use Rattle.snooping.specs.declared.line.Line.{Line}
-use Rattle.snooping.specs.Caches.{LineTable, GoodCaches, line_in, lines_in, table_by, table_of, processors_of}
-use Rattle.snooping.specs.Lines.{blank, version_at}
+use Rattle.std.proofs.Common.{is_some, Ok, Err, sym, refl, ap, ◌∙◌, arith}
+use Rattle.versions.specs.Orders.{place_in}
+use Rattle.snooping.specs.Caches.{table_of, processors_of}
 use Rattle.snooping.specs.Snooping.{plain_in}
 use Rattle.versions.specs.declared.refusal.Refusal.TheVariants.{NoProcessor, TaskActive}
 use Rattle.versions.specs.declared.turn.Turn.TheVariants.{Start}

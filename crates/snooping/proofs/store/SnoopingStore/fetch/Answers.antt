@@ -1,15 +1,12 @@
-use Rattle.std.proofs.Common.{◌≡◌, ℕ, suc, ◌+◌, ◌-◌, ◌%◌, ◌<◌, ◌≤◌, Bool, true, false, cond, not, ◌&&◌, List, [], length, get_or, take, drop, is_some, Some, None, Ok, Err, Option, Result, sym, refl, ap, ◌∙◌, subst, add-one, arith}
+use Rattle.std.proofs.Common.{◌≡◌, ◌%◌, length, Err, sym, refl, ap, ◌∙◌, subst, arith}
 use Rattle.std.proofs.lemmas.Result.{err_from_is_err_and}
-use Rattle.versions.specs.declared.refusal.Refusal.{Refusal}
-use Rattle.versions.specs.declared.version.Version.{Version}
-use Rattle.versions.specs.Orders.{place_in, processors}
-use Rattle.versions.specs.Versions.{is_held, is_own}
-use Rattle.versions.proofs.Tabling.{placed, squashes, squashes-le}
-use Rattle.snooping.specs.declared.cache.Cache.{Cache}
+use Rattle.versions.specs.Orders.{processors}
+use Rattle.versions.specs.Versions.{is_held}
+use Rattle.versions.proofs.Tabling.{placed}
 use Rattle.snooping.specs.declared.caches.Caches.{Caches}
 use Rattle.snooping.specs.declared.line.Line.{Line}
-use Rattle.snooping.specs.Caches.{LineTable, GoodCaches, with_line, relinked, line_in, lines_in, table_by, table_of, processors_of}
-use Rattle.snooping.specs.Lines.{blank, version_at, with_loaded}
+use Rattle.snooping.specs.Caches.{GoodCaches, with_line, relinked, lines_in, table_of, processors_of}
+use Rattle.snooping.specs.Lines.{version_at, with_loaded}
 use Rattle.snooping.specs.Snooping.{plain_in}
 use Rattle.versions.specs.declared.turn.Turn.TheVariants.{Load}
 use Rattle.versions.specs.Tables.{access_place}

@@ -1,20 +1,15 @@
-use Rattle.std.proofs.Common.{◌≡◌, ℕ, suc, ◌+◌, ◌-◌, ◌%◌, ◌<◌, ◌≤◌, Bool, true, false, cond, not, ◌&&◌, List, [], length, get_or, take, drop, is_some, Some, None, Ok, Err, Option, Result, sym, refl, ap, ◌∙◌, subst, add-one, arith}
+use Rattle.std.proofs.Common.{◌≡◌, ℕ, ◌%◌, cond, length, is_some, Err, Option, sym, refl, ap, ◌∙◌, subst}
 use Rattle.std.proofs.lemmas.Result.{err_from_is_err_and}
-use Rattle.versions.specs.declared.refusal.Refusal.{Refusal}
 use Rattle.versions.specs.declared.version.Version.{Version}
-use Rattle.versions.specs.Orders.{place_in, processors, Ordered}
-use Rattle.versions.specs.Versions.{is_held, is_own}
-use Rattle.versions.proofs.Tabling.{placed, squashes, squashes-le}
-use Rattle.snooping.specs.declared.cache.Cache.{Cache}
+use Rattle.versions.specs.Orders.{processors, Ordered}
 use Rattle.snooping.specs.declared.caches.Caches.{Caches}
-use Rattle.snooping.specs.declared.line.Line.{Line}
-use Rattle.snooping.specs.Caches.{LineTable, GoodCaches, with_line, relinked, line_in, lines_in, table_by, table_of, processors_of}
-use Rattle.snooping.specs.Lines.{blank, version_at, with_loaded}
+use Rattle.snooping.specs.Caches.{with_line, lines_in, table_of, processors_of}
+use Rattle.snooping.specs.Lines.{blank}
 use Rattle.snooping.specs.Snooping.{plain_in}
 use Rattle.versions.specs.declared.turn.Turn.TheVariants.{Replace}
 use Rattle.versions.specs.Plain.{written_to}
 use Rattle.versions.specs.Tables.{replace_place}
-use Rattle.versions.proofs.Judging.{replace-agrees, ok-replace}
+use Rattle.versions.proofs.Judging.{replace-agrees}
 use Rattle.versions.proofs.Serving.{refused-by}
 use Rattle.snooping.specs.Report.{quiet, written_back}
 use Rattle.snooping.proofs.Snooped.{turn-refused, turn-replace}

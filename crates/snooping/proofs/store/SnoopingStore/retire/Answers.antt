@@ -1,14 +1,8 @@
-use Rattle.std.proofs.Common.{◌≡◌, ℕ, suc, ◌+◌, ◌-◌, ◌%◌, ◌<◌, ◌≤◌, Bool, true, false, cond, not, ◌&&◌, List, [], length, get_or, take, drop, is_some, Some, None, Ok, Err, Option, Result, sym, refl, ap, ◌∙◌, subst, add-one, arith}
+use Rattle.std.proofs.Common.{◌<◌, length, drop, Err, sym, refl, ap, ◌∙◌, subst, arith}
 use Rattle.std.proofs.lemmas.Result.{err_from_is_err_and}
-use Rattle.versions.specs.declared.refusal.Refusal.{Refusal}
-use Rattle.versions.specs.declared.version.Version.{Version}
-use Rattle.versions.specs.Orders.{place_in, processors, Ordered}
-use Rattle.versions.specs.Versions.{is_held, is_own}
-use Rattle.versions.proofs.Tabling.{placed, squashes, squashes-le}
-use Rattle.snooping.specs.declared.cache.Cache.{Cache}
+use Rattle.versions.proofs.Tabling.{placed}
 use Rattle.snooping.specs.declared.caches.Caches.{Caches}
-use Rattle.snooping.specs.declared.line.Line.{Line}
-use Rattle.snooping.specs.Caches.{LineTable, GoodCaches, with_cache, line_in, lines_in, table_by, table_of, processors_of}
+use Rattle.snooping.specs.Caches.{GoodCaches, with_cache, lines_in, table_of, processors_of}
 use Rattle.snooping.specs.Lines.{ended}
 use Rattle.snooping.specs.Snooping.{plain_in}
 use Rattle.versions.specs.declared.turn.Turn.TheVariants.{Commit}

@@ -1,4 +1,4 @@
-use Rattle.std.proofs.Common.{◌≡◌, ℕ, ◌+◌, ◌<◌, ◌≤◌, Bool, true, false, cond, List, length, is_some, Option, sym, refl, ap, ◌∙◌, subst, add-zero, arith}
+use Rattle.std.proofs.Common.{◌≡◌, ℕ, ◌+◌, Bool, true, false, cond, length, is_some, Option, sym, refl, ap, ◌∙◌, subst, add-zero, arith}
 use Rattle.memory.specs.Client.{count_below}
 use Rattle.versions.specs.Plain.{laid_over_all}
 use Rattle.versions.specs.Tables.{Fitting, up_to_class, ClassWritten}
@@ -6,7 +6,7 @@ use Rattle.versions.specs.Versions.{is_own}
 use Rattle.versions.proofs.Classes.{words-none, count_none, words-all, count-all}
 use Rattle.versions.proofs.Holding.{length-laid_over_all}
 use Rattle.snooping.specs.declared.caches.Caches.{Caches}
-use Rattle.snooping.specs.Caches.{Tagged, GoodCaches, lines_in, table_of, processors_of, or_else}
+use Rattle.snooping.specs.Caches.{Tagged, lines_in, table_of, processors_of, or_else}
 use Rattle.snooping.specs.Layout.{of_class}
 use Rattle.snooping.specs.Report.{last_own}
 use Rattle.snooping.proofs.Snooped.{laid}

@@ -1,4 +1,4 @@
-use Rattle.std.proofs.Common.{◌≡◌, ℕ, ◌<◌, Bool, true, false, List, length, Some, sym, refl, ap, ◌∙◌, subst}
+use Rattle.std.proofs.Common.{◌≡◌, ◌<◌, true, false, length, Some, sym, refl, ap, ◌∙◌, subst}
 use Rattle.versions.specs.Plain.{written_to}
 use Rattle.versions.proofs.Holding.{length-written_to}
 use Rattle.snooping.specs.declared.line.Line.{Line}

@@ -1,4 +1,4 @@
-use Rattle.std.proofs.Common.{ℕ, ◌<◌, length, take, sym, subst, arith}
+use Rattle.std.proofs.Common.{ℕ, ◌<◌, take, sym, subst, arith}
 use Rattle.std.proofs.lemmas.List.{get_or-take, length-take-le}
 use Rattle.versions.proofs.Ordering.{apart_below}
 use Rattle.versions.proofs.order.Order.at.Goals as goal
