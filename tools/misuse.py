@@ -15,17 +15,16 @@ import tempfile
 
 ROOT = pathlib.Path(__file__).resolve().parent.parent
 
-HEAD = """ghost use denote.Ref.{now};
+HEAD = """#![tactic(auto)]
+
 use memory::Memory;
 use player::Loading;
-use stores::SnoopingStore;
-use stores::SnoopingStoreStore;
 use stores::VersionStore;
 
 """
 
 LOADING = """pub fn loaded<M: Memory>(mut loading: Loading<M>, image: &[u8]) -> M
-    requires { ⌜ M·Memory .sound (loading .memory) ⌝ }
+    requires { M.Memory.sound loading.memory }
 {
     let _ = loading.load(image);
     let mut store = loading.open_snooping();
@@ -35,7 +34,7 @@ MISUSE    store.close()
 """
 
 CLOSING = """pub fn closed<M: Memory>(loading: Loading<M>) -> M
-    requires { ⌜ M·Memory .sound (loading .memory) ⌝ }
+    requires { M.Memory.sound loading.memory }
 {
     let mut store = loading.open_snooping();
     let _ = store.start(1);
@@ -58,15 +57,13 @@ def main():
         place = pathlib.Path(name)
         shutil.copytree(ROOT / "crates", place / "crates", ignore=shutil.ignore_patterns("must-fail"))
         shutil.copy2(ROOT / "crates.txt", place / "crates.txt")
-        if (ROOT / "target").is_dir():
-            shutil.copytree(ROOT / "target", place / "target", symlinks=True)
         with open(place / "crates.txt", "a") as crates:
             crates.write("misuse: memory versions buffer snooping stores player\n")
         source = place / "crates" / "misuse" / "src"
         source.mkdir(parents=True)
         for title, text, error in TRIALS:
             (source / "lib.rt").write_text(HEAD + text)
-            run = subprocess.run(["rt", "dev", "misuse"], cwd=place, capture_output=True, text=True)
+            run = subprocess.run(["rt", "check"], cwd=source.parent, capture_output=True, text=True)
             told = run.stdout + run.stderr
             if error is None:
                 good = run.returncode == 0

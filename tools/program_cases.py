@@ -1,7 +1,7 @@
 #!/usr/bin/env python3
 """Runs `play` and `central` on files at the ends of what they take, and on random ones, and compares their listings.
 
-    rt check play central && tools/program_cases.py [RANDOM]
+    (cd crates/play && rt run) && (cd crates/central && rt run) && tools/program_cases.py [RANDOM]
 
 The cases at the ends are below, each with the listing that docs/player.md demands, worked out by hand. With a number RANDOM,
 as many whole and damaged cases more are made by the independent implementation (bench/independent, built with cargo), which
@@ -14,7 +14,7 @@ import sys
 import tempfile
 
 ROOT = pathlib.Path(__file__).resolve().parent.parent
-PROGRAMS = [ROOT / "target" / "bin" / name for name in ("play", "central")]
+PROGRAMS = [ROOT / "crates" / name / "out" / name for name in ("play", "central")]
 NO_PAIRS = bytes(4)
 
 

@@ -1,6 +1,6 @@
 -- What is written is read back.
 use Rattle.std.proofs.Common.{◌≡◌, ℕ, ◌+◌, ◌-◌, ◌^◌, ◌<◌, ◌≤◌, Bool, true, false, cond, not, ◌&&◌, eqb, ltb, leb, List, [], ◌∷◌, ◌++◌, map, length, get_or, take, Some, None, Ok, Err, codes, decimal, Option, Result, sym, refl, ap, ◌∙◌, ⊎_elim, arith}
-use Rattle.std.specs.List.{flat_map, AllByRecursion as All}
+use Rattle.std.specs.List.{flat_map, AllByRecursion}
 use Rattle.std.specs.Str.Parse.{digits_value}
 use Rattle.std.specs.Char.{is_ascii_digit}
 use Rattle.std.specs.Str.{all_ascii_digits}
@@ -83,20 +83,20 @@ field_back n h =
     cond-true (plain_decimal (decimal n)) (small (digits_value 10 (decimal n))) (Err why.Field) (plain-decimal n h)
     ∙ (ap small (digits_value-decimal own n (omega arith)) ∙ cond-true (ltb n (2 ^ 32)) (Ok n) (Err why.TooLarge) (lt-ltb n (2 ^ 32) h))
 
-fields_back : (fs : List ℕ) → All (λ n. n < 2 ^ 32) fs → fields_of (length fs) (map decimal fs) ≡ Ok fs
+fields_back : (fs : List ℕ) → AllByRecursion (λ n. n < 2 ^ 32) fs → fields_of (length fs) (map decimal fs) ≡ Ok fs
 fields_back [] fit = refl
 fields_back (f ∷ fs) fit =
     ap (λ (r : Result ℕ TextWhy). field_before r (fields_of (length fs) (map decimal fs))) (field_back f fit.0)
     ∙ ap (field_before (Ok f)) (fields_back fs fit.1)
 
 -- a word and fields, written and taken apart
-split-fields : (word : List ℕ) (fs : List ℕ) → after space word ≡ None → All (λ n. n < 2 ^ 32) fs → split space (word ++ flat_map field_text fs) ≡ word ∷ map decimal fs
+split-fields : (word : List ℕ) (fs : List ℕ) → after space word ≡ None → AllByRecursion (λ n. n < 2 ^ 32) fs → split space (word ++ flat_map field_text fs) ≡ word ∷ map decimal fs
 split-fields word [] none fit = ap (split space) (append-nil word) ∙ split-whole space word none
 split-fields word (f ∷ fs) none fit =
     split_at space word (decimal f ++ flat_map field_text fs) none
     ∙ ap (λ (ps : List (List ℕ)). word ∷ ps) (split-fields (decimal f) fs (digits-no-separator space (decimal f) (omega arith) (all_digits-decimal f fit.0)) fit.1)
 
-no-end-fields : (fs : List ℕ) → All (λ n. n < 2 ^ 32) fs → after line_end (flat_map field_text fs) ≡ None
+no-end-fields : (fs : List ℕ) → AllByRecursion (λ n. n < 2 ^ 32) fs → after line_end (flat_map field_text fs) ≡ None
 no-end-fields [] fit = refl
 no-end-fields (f ∷ fs) fit =
     after-append line_end (decimal f) (flat_map field_text fs) (digits-no-separator line_end (decimal f) (omega arith) (all_digits-decimal f fit.0)) (no-end-fields fs fit.1)
@@ -131,7 +131,7 @@ turn-back t fit =
 no-end-turn : (t : Turn) → Small t → after line_end (turn_text t) ≡ None
 no-end-turn t fit = after-append line_end (verb_text (verb_of t)) (flat_map field_text (fields_in t)) (verb-plain (verb_of t)).1 (no-end-fields (fields_in t) fit)
 
-lines-back : (at free : ℕ) (ts : List Turn) → All Small ts → length ts ≤ free → lines_read at free (split line_end (text_of ts)) ≡ whole_read ts
+lines-back : (at free : ℕ) (ts : List Turn) → AllByRecursion Small ts → length ts ≤ free → lines_read at free (split line_end (text_of ts)) ≡ whole_read ts
 lines-back at free [] fit room = refl
 lines-back at free (t ∷ ts) fit room =
     let line = turn_text t in
@@ -145,7 +145,7 @@ lines-back at free (t ∷ ts) fit room =
     ∙ (cond-true (ltb 0 free) _ _ (lt-ltb 0 free (omega arith))
     ∙ ap (turn_before t) (lines-back next (free - 1) ts fit.1 (omega arith)))))
 
-pub text-back : (free : ℕ) (ts : List Turn) → All Small ts → length ts ≤ free → text_read free (text_of ts) ≡ whole_read ts
+pub text-back : (free : ℕ) (ts : List Turn) → AllByRecursion Small ts → length ts ≤ free → text_read free (text_of ts) ≡ whole_read ts
 text-back free ts fit room = lines-back 0 free ts fit room
 
 -- one line more

@@ -2,7 +2,7 @@
 -- and the words. A pair is an offset and a length, and takes that many of the words, in their order.
 use Rattle.std.specs.Prelude.{◌≡◌, ℕ, ◌+◌, ◌*◌, ◌<◌, ◌≤◌, Bool, cond, not, ◌||◌, ◌⊎◌, List, [], ◌∷◌, ◌++◌, length, take, drop, is_ok, Some, None, Ok, Err, sum_by, Option, Result, ◌==◌, nat_lt, slice_index}
 use Rattle.std.proofs.Math.Seq.{paste}
-use Rattle.std.specs.List.{AllByRecursion as All}
+use Rattle.std.specs.List.{AllByRecursion}
 use Rattle.memory.specs.Bytes.{words_of}
 use Rattle.player.specs.declared.fault.ImageFault.{ImageFault}
 use Rattle.player.specs.declared.fault.ImageWhy.{ImageWhy}
@@ -36,7 +36,7 @@ pair_end p = p.offset + p.len
 
 -- all pairs end inside n words
 abbrev pub Inside : ℕ → List Pair → Type 0
-Inside n ps = All (λ p. pair_end p ≤ n) ps
+Inside n ps = AllByRecursion (λ p. pair_end p ≤ n) ps
 
 -- how many words some pairs take
 abbrev pub words_taken : List Pair → ℕ
@@ -98,4 +98,4 @@ HoldsPairs (p ∷ ps) vs ws = (take p.len (drop p.offset ws) ≡ take p.len vs) 
 
 -- address a lies in none of the pairs
 abbrev pub OutsidePairs : ℕ → List Pair → Type 0
-OutsidePairs a ps = All (λ p. (a < p.offset) ⊎ (pair_end p ≤ a)) ps
+OutsidePairs a ps = AllByRecursion (λ p. (a < p.offset) ⊎ (pair_end p ≤ a)) ps

@@ -1,6 +1,6 @@
 -- Turns written as text.
 use Rattle.std.specs.Prelude.{ℕ, ◌^◌, ◌<◌, List, [], ◌∷◌, ◌++◌, decimal}
-use Rattle.std.specs.List.{flat_map, AllByRecursion as All}
+use Rattle.std.specs.List.{flat_map, AllByRecursion}
 use Rattle.versions.specs.declared.turn.Turn.{Turn}
 use Rattle.versions.specs.declared.turn.Turn.TheVariants.{Start, Load, Store, Squash, Commit, Replace}
 use Rattle.player.specs.declared.verb.Verb.{Verb}
@@ -41,4 +41,4 @@ text_of ts = flat_map line_of ts
 
 -- the fields of a turn are numbers of 32 bits
 abbrev pub Small : Turn → Type 0
-Small t = All (λ n. n < 2 ^ 32) (fields_in t)
+Small t = AllByRecursion (λ n. n < 2 ^ 32) (fields_in t)

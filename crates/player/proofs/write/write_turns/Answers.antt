@@ -1,5 +1,5 @@
 use Rattle.std.proofs.Common.{◌≡◌, take, string_bytes, ap, ◌∙◌, subst, arith}
-use Rattle.std.specs.List.{AllByRecursion as All}
+use Rattle.std.specs.List.{AllByRecursion}
 use Rattle.std.proofs.ByRecursion.{All-more}
 use Rattle.std.proofs.lemmas.List.{take_all}
 use Rattle.versions.specs.declared.turn.Turn.TheVariants.{Start}
@@ -24,5 +24,5 @@ returns c =
     let i = c.loop-turn.turn-index in
     let all : take i ts ≡ ts = take_all i ts (omega arith) in
     let text : string_bytes c.loop-turn.text ≡ text_of ts = c.loop-turn.invariant.0 ∙ ap text_of all in
-    let fit : All Small ts = subst (All Small) all c.loop-turn.invariant.1 in
+    let fit : AllByRecursion Small ts = subst (AllByRecursion Small) all c.loop-turn.invariant.1 in
     record { text = text; back = λ free room. ap (text_read free) text ∙ text-back free ts fit room }
