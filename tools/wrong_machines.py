@@ -317,25 +317,25 @@ def R(p, a): return (REPLACE, p, a)
 
 
 WORKED = [
-    ("last-address", [L(0, 63), L(0, 64)], [0, -4]),
-    ("one-of-a-class", [L(1, 5), L(1, 21)], [0, -5]),
-    ("equal-word-squashes", [S(0, 5, 7), L(2, 5), S(0, 5, 7)], [0, 7, 2]),
-    ("version-between-hides", [S(1, 5, 8), L(2, 5), S(0, 5, 7)], [0, 8, 0]),
-    ("mark-outlives-store", [L(2, 5), S(2, 5, 9), S(0, 5, 7)], [0, 0, 2]),
-    ("own-word-sets-no-mark", [S(2, 5, 9), L(2, 5), S(0, 5, 7)], [0, 9, 0]),
-    ("replaced-is-not-held", [S(0, 5, 7), R(0, 5), R(0, 5)], [0, 1, -8]),
-    ("head-rules", [(COMMIT, 1), (SQUASH, 0), (SQUASH, 1)], [-6, -7, 3]),
-    ("restart-after-commit", [S(0, 5, 7), (COMMIT, 0), (START, 0), S(1, 5, 8), L(0, 5)], [0, 1, 3, 0, 8]),
-    ("replaced-mark-is-gone", [L(0, 5), R(0, 5), R(0, 5)], [0, 0, -8]),
+    ("last_address", [L(0, 63), L(0, 64)], [0, -4]),
+    ("one_of_a_class", [L(1, 5), L(1, 21)], [0, -5]),
+    ("equal_word_squashes", [S(0, 5, 7), L(2, 5), S(0, 5, 7)], [0, 7, 2]),
+    ("version_between_hides", [S(1, 5, 8), L(2, 5), S(0, 5, 7)], [0, 8, 0]),
+    ("mark_outlives_store", [L(2, 5), S(2, 5, 9), S(0, 5, 7)], [0, 0, 2]),
+    ("own_word_sets_no_mark", [S(2, 5, 9), L(2, 5), S(0, 5, 7)], [0, 9, 0]),
+    ("replaced_is_not_held", [S(0, 5, 7), R(0, 5), R(0, 5)], [0, 1, -8]),
+    ("head_rules", [(COMMIT, 1), (SQUASH, 0), (SQUASH, 1)], [-6, -7, 3]),
+    ("restart_after_commit", [S(0, 5, 7), (COMMIT, 0), (START, 0), S(1, 5, 8), L(0, 5)], [0, 1, 3, 0, 8]),
+    ("replaced_mark_is_gone", [L(0, 5), R(0, 5), R(0, 5)], [0, 0, -8]),
     # each refusal, in every kind of turn that can have it, while the conditions of later ones hold as well
-    ("processor-comes-first", [(START, 4), L(4, 64), S(4, 64, 7), (SQUASH, 4), (COMMIT, 4), R(4, 64)], [-1] * 6),
-    ("one-task-a-processor", [(START, 0)], [-2]),
-    ("task-comes-next", [(COMMIT, 0), L(0, 64), S(0, 64, 7), (SQUASH, 0), (COMMIT, 0), R(0, 64)], [0] + [-3] * 5),
-    ("address-comes-next", [L(1, 5), L(1, 69), S(1, 69, 7), R(1, 69)], [0, -4, -4, -4]),
-    ("sixteen-classes", [L(1, 5), L(1, 13), L(2, 21), L(1, 5), S(1, 21, 7)], [0, 0, 0, 0, -5]),
-    ("own-word-takes-class", [S(1, 5, 7), S(1, 5, 8), L(1, 21)], [0, 0, -5]),
-    ("not-head-before-not-held", [R(1, 5)], [-6]),
-    ("commit-counts-own-words", [L(0, 5), S(0, 6, 7), S(0, 8, 9), (COMMIT, 0)], [0, 0, 0, 2]),
+    ("processor_comes_first", [(START, 4), L(4, 64), S(4, 64, 7), (SQUASH, 4), (COMMIT, 4), R(4, 64)], [-1] * 6),
+    ("one_task_a_processor", [(START, 0)], [-2]),
+    ("task_comes_next", [(COMMIT, 0), L(0, 64), S(0, 64, 7), (SQUASH, 0), (COMMIT, 0), R(0, 64)], [0] + [-3] * 5),
+    ("address_comes_next", [L(1, 5), L(1, 69), S(1, 69, 7), R(1, 69)], [0, -4, -4, -4]),
+    ("sixteen_classes", [L(1, 5), L(1, 13), L(2, 21), L(1, 5), S(1, 21, 7)], [0, 0, 0, 0, -5]),
+    ("own_word_takes_class", [S(1, 5, 7), S(1, 5, 8), L(1, 21)], [0, 0, -5]),
+    ("not_head_before_not_held", [R(1, 5)], [-6]),
+    ("commit_counts_own_words", [L(0, 5), S(0, 6, 7), S(0, 8, 9), (COMMIT, 0)], [0, 0, 0, 2]),
 ]
 
 # runs that are no theorem of the specs today, for machines that nothing refuses
@@ -359,7 +359,7 @@ def fails(machine, runs):
 
 
 # ---- the wrong machines: what each does, and where the proof breaks when the definitions in crates/versions/specs say so
-# too. That was seen by making the change and running `rt dev stores`; nothing here computes it. "In shape alone" says
+# too. That was seen by making the change and checking the crate; nothing here computes it. "In shape alone" says
 # that the laws hold of the machine all the same: the proof follows the text of the definition.
 
 MACHINES = []
@@ -388,20 +388,20 @@ def ordered(*order):
     return Ordered
 
 
-@wrong("a store squashes all later tasks", "`squashedBy-count` (Columns)")
+@wrong("a store squashes all later tasks", "`squashed_by-count` (Columns)")
 class _(Store):
     def squashed(self, i, a, w):
         return set(range(i + 1, len(self.order)))
 
 
-@wrong("a store squashes the oldest hit task alone, and not those after it", "`squashedBy-count` (Columns)")
+@wrong("a store squashes the oldest hit task alone, and not those after it", "`squashed_by-count` (Columns)")
 class _(Store):
     def squashed(self, i, a, w):
         hit = self.hit(i, a)
         return set() if hit is None else {hit}
 
 
-@wrong("a store squashes from the last hit task on", "`squashedBy-count` (Columns)")
+@wrong("a store squashes from the last hit task on", "`squashed_by-count` (Columns)")
 class _(Store):
     def hit(self, i, a):
         last = None
@@ -431,7 +431,7 @@ class _(Store):
         pass
 
 
-@wrong("a started task has a mark at every address", "`taskOf-at` (Columns)")
+@wrong("a started task has a mark at every address", "`task_of-at` (Columns)")
 class _(Store):
     def new_task(self, p):
         t = Task(p)
@@ -461,7 +461,7 @@ class _(Store):
         return t
 
 
-@wrong("a commit forgets the word at address 0", "`getD-laidOverAll` (Holding)")
+@wrong("a commit forgets the word at address 0", "`get_or-laid_over_all` (Holding)")
 class _(Store):
     def settle(self, task):
         for a, w in task.own.items():
@@ -469,7 +469,7 @@ class _(Store):
                 self.memory[a] = w
 
 
-@wrong("a commit forgets the own word with the highest address", "`getD-laidOverAll` (Holding)")
+@wrong("a commit forgets the own word with the highest address", "`get_or-laid_over_all` (Holding)")
 class _(Store):
     def settle(self, task):
         for a, w in task.own.items():
@@ -501,13 +501,13 @@ class _(Store):
         task.marks.add(a)
 
 
-@wrong("an own word in between hides nothing", "`squashedBy-count` (Columns)")
+@wrong("an own word in between hides nothing", "`squashed_by-count` (Columns)")
 class _(Store):
     def hit(self, i, a):
         return next((k for k in range(i + 1, len(self.order)) if a in self.order[k].marks), None)
 
 
-@wrong("an own word hides its own task's mark", "`squashedBy-count` (Columns)")
+@wrong("an own word hides its own task's mark", "`squashed_by-count` (Columns)")
 class _(Store):
     def hit(self, i, a):
         for k in range(i + 1, len(self.order)):
