@@ -4,7 +4,7 @@ use Rattle.std.proofs.lemmas.List.{append_assoc, take_more, drop_more, set_at, l
 use Rattle.versions.specs.declared.refusal.Refusal.{Refusal}
 use Rattle.versions.specs.declared.turn.Turn.{Turn}
 use Rattle.versions.specs.declared.turn.Turn.TheVariants.{Start, Load, Store, Squash, Commit, Replace}
-use Rattle.versions.specs.Plain.{Plain, is_on, task_on, memory_words, refusal_of, moved, unless_refused, state_after}
+use Rattle.versions.specs.Plain.{Plain, task_on, memory_words, refusal_of, moved, unless_refused, state_after}
 use Rattle.versions.proofs.Holding.{length-laid_over_all, length-written_to}
 use Rattle.model.specs.declared.command.Asked.{Asked}
 use Rattle.model.specs.declared.command.Asked.TheVariants.{Played, Word, Tasks, OneLine, Report, Unknown}

@@ -1,7 +1,6 @@
 -- What a list of commands shows of a store: its plain state, and its bus if it has one.
 use Rattle.std.specs.Prelude.{ℕ, cond, ◌&&◌, List, [], ◌∷◌, ◌++◌, length, drop, Some, None, Option, ◌==◌, nat_le, nat_lt}
 use Rattle.std.specs.Option.{option_map}
-use Rattle.versions.specs.declared.turn.Turn.{Turn}
 use Rattle.versions.specs.Plain.{Plain, opened, memory_words, active_tasks, answer_of, state_after, word_of}
 use Rattle.snooping.specs.declared.report.BusReport.{BusReport}
 use Rattle.snooping.specs.Report.{report_after}

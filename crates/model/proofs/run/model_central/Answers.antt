@@ -1,4 +1,4 @@
-use Rattle.std.proofs.Common.{Some, None, ap, ◌∙◌}
+use Rattle.std.proofs.Common.{None, ap, ◌∙◌}
 use Rattle.versions.specs.Plain.{memory_words}
 use Rattle.buffer.specs.Buffers.{plain_in}
 use Rattle.model.specs.Machines.{Seen}
