@@ -1,0 +1,23 @@
+// What no contract says of a file, and one run over a source whose bytes are known.
+use crate::{fill, read_start};
+use std::test::Fail;
+
+#[test]
+fn a_missing_file_is_empty(rt: HostRuntime) -> Result<(), Fail> {
+    let mut row = [7u8; 4];
+    assert_eq!(rt; read_start(&rt, "there-is-no-such-file", &mut row)?, 0);
+    assert_eq!(rt; row, [7, 7, 7, 7]);
+    Ok(())
+}
+
+#[test]
+fn a_source_is_read_until_it_ends_or_the_buffer_is_full(rt: HostRuntime) -> Result<(), Fail> {
+    let mut source: &[u8] = &[1, 2, 3, 4, 5];
+    let mut row = [7u8; 3];
+    assert_eq!(rt; fill(&mut source, &mut row)?, 3);
+    assert_eq!(rt; row, [1, 2, 3]);
+    assert_eq!(rt; fill(&mut source, &mut row)?, 2);
+    assert_eq!(rt; row, [4, 5, 3]);
+    assert_eq!(rt; fill(&mut source, &mut row)?, 0);
+    Ok(())
+}
