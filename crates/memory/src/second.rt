@@ -24,9 +24,8 @@ impl Line {
         ensures { result ≡ word_in self a }
     {
         match self {
-            Line::Empty => None,
-            Line::Clean { tag, word } => if tag == a { Some(word) } else { None },
-            Line::Changed { tag, word } => if tag == a { Some(word) } else { None },
+            Line::Clean { tag, word } | Line::Changed { tag, word } if tag == a => Some(word),
+            _ => None,
         }
     }
 }
@@ -85,14 +84,9 @@ impl<M: Memory> SecondLevel<M> {
         ensures beside { M.Memory.spare self.new.below ≡ M.Memory.spare self.old.below }
         ensures kept { M.Memory.sound self.new.below }
     {
-        let line = self.lines[i];
-        match line {
-            Line::Empty => {}
-            Line::Clean { tag: _, word: _ } => {}
+        if let Line::Changed { tag, word } = self.lines[i] {
             // Never refused: the tag is an address of the memory below.
-            Line::Changed { tag, word } => {
-                let _ = self.below.write(tag, word);
-            }
+            let _ = self.below.write(tag, word);
         }
         self.lines[i] = Line::Empty;
     }
@@ -114,8 +108,7 @@ impl<M: Memory> SecondLevel<M> {
         ensures answer { IfSome result (λ w. read_answer (counted (cached_of M.Memory.words self.now)) a ≡ Ok w) }
         ensures cached { OnSome result (after_read (cached_of M.Memory.words self.now) a ≡ cached_of M.Memory.words self.now) }
     {
-        let line = self.lines[a as usize % 64];
-        line.word_of(a)
+        self.lines[a as usize % 64].word_of(a)
     }
 
     // Frees the line of address a for it: one that holds another address is given up.
@@ -126,8 +119,7 @@ impl<M: Memory> SecondLevel<M> {
         ensures kept { M.Memory.sound self.new.below }
     {
         let i = a as usize % 64;
-        let line = self.lines[i];
-        if line.word_of(a).is_none() {
+        if self.lines[i].word_of(a).is_none() {
             self.give_up(i);
         }
     }
@@ -168,8 +160,6 @@ impl<M: Memory> Memory for SecondLevel<M> {
 
     ghost sound = { SoundCache M.Memory.words M.Memory.sound };
 
-    ghost sized = { λ s h. counted-sized (cached_of M.Memory.words s) (M.Memory.sized s.below h.0) };
-
     ghost spare = { λ s. M.Memory.spare s.below };
 
     fn size(&self) -> u32 {
@@ -206,4 +196,6 @@ impl<M: Memory> Memory for SecondLevel<M> {
         self.put(a, w);
         Ok(())
     }
+
+    ghost sized = { λ s h. counted-sized (cached_of M.Memory.words s) (M.Memory.sized s.below h.0) };
 }

@@ -3,7 +3,7 @@ ghost use Rattle.std.specs.Prelude.{◌≡◌, ℕ, List, [], length, Ok};
 ghost use Rattle.memory.specs.Words.{read_answer, write_answer, written_words, open_answer, MemorySize};
 
 use crate::error::MemoryError;
-use crate::interface::Memory;
+use crate::interface::{Memory, check_size};
 
 // Letting one go ends the loan and loses nothing, as every word already lies in the row.
 #[derive(Drop)]
@@ -16,10 +16,7 @@ impl<'a> WordMemory<'a> {
     pub fn check(row: &[u32]) -> Result<(), MemoryError>
         ensures { result ≡ open_answer (length row.now) }
     {
-        if row.len() < 1 || row.len() > 4096 {
-            return Err(MemoryError::Size);
-        }
-        Ok(())
+        check_size(row.len())
     }
 
     // The memory over a row that passed the check.
@@ -45,8 +42,6 @@ impl Memory for WordMemory<'_> {
 
     ghost sound = { λ m. MemorySize (length m.row.now) };
 
-    ghost sized = { λ _ h. h };
-
     ghost spare = { λ _. [] };
 
     fn size(&self) -> u32 {
@@ -67,4 +62,6 @@ impl Memory for WordMemory<'_> {
         self.row[a as usize] = w;
         Ok(())
     }
+
+    ghost sized = { λ _ h. h };
 }
