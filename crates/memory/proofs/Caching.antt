@@ -16,6 +16,8 @@ pub length-counted : (c : Cached) → length (counted c) ≡ length c.below
 unfolding counted
 length-counted c = length-map-range_with_len (counted_at c) 0 (length c.below)
 
+pub ruleset sizes = (length-counted)
+
 pub get_or-counted : (c : Cached) (a : ℕ) → a < length c.below → get_or (counted c) a 0 ≡ counted_at c a
 unfolding counted
 get_or-counted c a h = get_or-map-range_with_len (counted_at c) 0 (length c.below) a a 0 h (omega arith)

@@ -5,7 +5,7 @@ use Rattle.std.proofs.lemmas.List.FromFn.{length-map-range_with_len, get_or-map-
 use Rattle.std.proofs.lemmas.List.{length-set, get_or-set_same, get_or-set_other, drop-set-lt, ext_get_or}
 use Rattle.std.proofs.lemmas.List.{drop-drop, get_or-take, get_or-drop}
 use Rattle.std.proofs.lemmas.Option.{slice_get-get_or, slice_get_past}
-use Rattle.std.proofs.lemmas.Bool.{cases_eq, cond_below, cond_above}
+use Rattle.std.proofs.lemmas.Bool.{cases_eq, cond_below}
 use Rattle.std.specs.Simd.{first_chunks}
 use borrow.Rule.Slice.PartMut.{put_mid}
 use Rattle.memory.specs.Bytes.{byte_of, from_bytes, word_at, words_of, spare_bytes, with_word, written_bytes}
@@ -14,6 +14,8 @@ use Rattle.memory.specs.Words.{written_words}
 pub length-words_of : (bs : List ℕ) → length (words_of bs) ≡ length bs / 4
 unfolding words_of
 length-words_of bs = length-map-range_with_len (word_at bs) 0 (length bs / 4)
+
+pub ruleset sizes = (length-words_of)
 
 pub get_or-words_of : (bs : List ℕ) (a : ℕ) → a < length bs / 4 → get_or (words_of bs) a 0 ≡ word_at bs a
 unfolding words_of
@@ -153,7 +155,3 @@ put-word bs ys a n w h long f e =
       words = ap words_of put ∙ (words_of-with_word bs a w h f ∙ cond_below a (length (words_of bs)) (set (words_of bs) a w) (words_of bs) (rw length-words_of h));
       beside = ap spare_bytes put ∙ spare-with_word bs a w h;
     }
-
--- a word that the row does not have is not written
-pub not-put : (bs : List ℕ) (n a w : ℕ) → n ≡ length (words_of bs) → n ≤ a → bs ≡ written_bytes bs a w
-not-put bs n a w e h = cond_above a (length bs / 4) (with_word bs a w) bs bs (omega (arith, length-words_of bs)) refl

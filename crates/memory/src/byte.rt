@@ -11,7 +11,8 @@ use crate::interface::{Memory, check_size};
 #[derive(Drop)]
 pub struct ByteMemory<'a> {
     row: &'a mut [u8],
-    ghost sized: { MemorySize (length row.now / 4) },
+    // The row has 1 to 4,096 words. So `read` and `write`, which name the row, ask nothing of their caller.
+    ghost in_range: { MemorySize (length row.now / 4) },
 }
 
 impl<'a> ByteMemory<'a> {
@@ -56,6 +57,7 @@ impl Memory for ByteMemory<'_> {
 
     ghost spare = { λ m. spare_bytes m.row.now };
 
+    #[tactic(auto, using(crate::proofs::Packing::sizes))]
     fn size(&self) -> u32 {
         (self.row.len() / 4) as u32
     }
@@ -69,6 +71,7 @@ impl Memory for ByteMemory<'_> {
     }
 
     // Puts w into bytes 4a to 4a+3 and touches no other byte, or refuses and touches none.
+    #[tactic(auto, using(crate::proofs::Packing::sizes))]
     fn write(&mut self, a: u32, w: u32) -> Result<(), MemoryError>
         ensures answer { result ≡ write_answer (words_of self.old.row.now) a }
         ensures row { self.new.row.now ≡ written_bytes self.old.row.now a w }

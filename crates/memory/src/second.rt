@@ -52,15 +52,14 @@ impl<M: Memory> SecondLevel<M> {
     }
 
     // Takes the cache apart: writes back what it held back, and hands over the memory below.
-    pub fn close(self) -> M
+    pub fn close(mut self) -> M
         requires { SoundCache M.Memory.words M.Memory.sound self }
         ensures words { M.Memory.words result ≡ counted (cached_of M.Memory.words self) }
         ensures beside { M.Memory.spare result ≡ M.Memory.spare self.below }
         ensures kept { M.Memory.sound result }
     {
-        let mut cache = self;
-        cache.give_up_all();
-        let SecondLevel { below, lines: _ } = cache;
+        self.give_up_all();
+        let SecondLevel { below, lines: _ } = self;
         below
     }
 
@@ -89,15 +88,6 @@ impl<M: Memory> SecondLevel<M> {
             let _ = self.below.write(tag, word);
         }
         self.lines[i] = Line::Empty;
-    }
-
-    // How many words the memory below has, and so the cache.
-    fn count(&self) -> u32
-        requires { SoundCache M.Memory.words M.Memory.sound self.now }
-        ensures below { result ≡ length (M.Memory.words self.now.below) }
-        ensures words { result ≡ length (counted (cached_of M.Memory.words self.now)) }
-    {
-        self.below.size()
     }
 
     // The word for address a in its line, if that holds it. A read of such an address gives that word and moves
@@ -162,8 +152,10 @@ impl<M: Memory> Memory for SecondLevel<M> {
 
     ghost spare = { λ s. M.Memory.spare s.below };
 
+    // The memory below has as many.
+    #[tactic(auto, using(crate::proofs::Caching::sizes))]
     fn size(&self) -> u32 {
-        self.count()
+        self.below.size()
     }
 
     // A hit gives the line's word. A miss takes the line.
@@ -182,6 +174,7 @@ impl<M: Memory> Memory for SecondLevel<M> {
     }
 
     // The line is changed from now on. A write reads nothing below.
+    #[tactic(auto, using(crate::proofs::Caching::sizes))]
     fn write(&mut self, a: u32, w: u32) -> Result<(), MemoryError>
         requires { SoundCache M.Memory.words M.Memory.sound self.old }
         ensures answer { result ≡ write_answer (counted (cached_of M.Memory.words self.old)) a }
@@ -190,7 +183,7 @@ impl<M: Memory> Memory for SecondLevel<M> {
         ensures kept { SoundCache M.Memory.words M.Memory.sound self.new }
         ensures cached { cached_of M.Memory.words self.new ≡ after_write (cached_of M.Memory.words self.old) a w }
     {
-        if a >= self.count() {
+        if a >= self.size() {
             return Err(MemoryError::Address);
         }
         self.put(a, w);

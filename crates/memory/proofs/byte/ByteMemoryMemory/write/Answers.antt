@@ -1,12 +1,6 @@
 use Rattle.std.proofs.Common.{◌+◌, ◌-◌, ◌*◌, ◌<◌, ◌/◌, length, ◌∙◌, arith, rules}
-use Rattle.memory.proofs.Packing.{length-words_of, put-word, not-put}
+use Rattle.memory.proofs.Packing.{length-words_of, put-word}
 use Rattle.memory.proofs.byte.ByteMemoryMemory.write.Goals as goal
-
-pub slice_bounds-copy_from_slice-end : goal.slice_bounds-copy_from_slice-end
-slice_bounds-copy_from_slice-end c = omega (arith, length-words_of)
-
-pub returns-then-a-size-clause-row : goal.returns-then-a-size-clause-row
-returns-then-a-size-clause-row c = not-put _ c.size.result c.args.a _ c.size.ensures c.if-a-size.true
 
 pub returns : goal.returns
 returns c =
