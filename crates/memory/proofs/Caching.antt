@@ -1,12 +1,11 @@
 -- Laws of the second-level cache: what giving up a line and taking one do to the words as counted.
-use Rattle.std.proofs.Common.{◌≡◌, ℕ, ◌+◌, ◌%◌, ◌<◌, true, false, eqb, ltb, ◌≢◌, List, length, get_or, set, replicate, is_some, IfSome, Some, None, Ok, Err, Option, unwrap_or, sym, refl, ap, ◌∙◌, ⊎_elim, arith}
+use Rattle.std.proofs.Common.{◌≡◌, ℕ, ◌+◌, ◌%◌, ◌<◌, true, false, eqb, ◌≢◌, List, length, get_or, set, replicate, is_some, IfSome, Some, None, Ok, Err, Option, unwrap_or, sym, refl, ap, ◌∙◌, ⊎_elim, arith}
 use Rattle.std.proofs.lemmas.List.FromFn.{length-map-range_with_len, get_or-map-range_with_len}
 use Rattle.std.proofs.lemmas.List.{length-set, get_or-set_same, get_or-set_other, ext_get_or, set-get_or, get_or-replicate, length-replicate}
-use Rattle.std.proofs.lemmas.Bool.{cases_eq, lt-ltb, eq-eqb, ne_eqb, cond-true, cond-false, cond_both}
+use Rattle.std.proofs.lemmas.Bool.{cases_eq, eq-eqb, ne_eqb, cond-true, cond-false, cond_both}
 use Rattle.std.proofs.lemmas.Bool.Decides.{nat_tests}
-use Rattle.std.proofs.lemmas.Grind.{common_steps}
+use Rattle.std.proofs.lemmas.Grind.{common_steps, same_number_lists}
 use Rattle.memory.specs.declared.error.MemoryError.{MemoryError}
-use Rattle.memory.specs.declared.error.MemoryError.TheVariants.{Address}
 use Rattle.memory.specs.declared.second.Line.{Line}
 use Rattle.memory.specs.declared.second.Line.TheVariants.{Empty, Clean, Changed}
 use Rattle.memory.specs.Words.{read_answer}
@@ -39,10 +38,7 @@ may_hold-kept ws vs i l m n same = grind (arith, nat_tests)
 
 -- giving up line i leaves the words below of other lines' addresses
 below-elsewhere : (c : Cached) (i b : ℕ) → Tied c → i < 64 → b % 64 ≢ i → get_or (given_up c i).below b 0 ≡ get_or c.below b 0
-below-elsewhere c i b t h ne =
-    let m = t.each i h in
-    get_or-written_back c.below i (get_or c.lines i Empty) b m
-    ∙ ap (λ o. unwrap_or o (get_or c.below b 0)) (word_in-elsewhere c.below i (get_or c.lines i Empty) b m ne)
+below-elsewhere c i b t h ne = let m = t.each i h in grind (arith, word_in-elsewhere, get_or-written_back)
 
 pub tied-given_up : (c : Cached) (i : ℕ) → Tied c → i < 64 → Tied (given_up c i)
 tied-given_up c i t h = record {
@@ -82,14 +78,8 @@ Free c a = (b : ℕ) → b ≢ a → word_in (line_of c a) b ≡ None
 
 tied-placed : (c : Cached) (a : ℕ) (l : Line) → Tied c → MayHold c.below (a % 64) l → Tied (placed c a l)
 tied-placed c a l t m =
-    let inside : a % 64 < length c.lines = rw t.count (omega arith) in
-    record {
-      count = length-set c.lines (a % 64) l ∙ t.count;
-      each = λ j k. ⊎_elim
-          (λ (e : j ≡ a % 64). rw (e, get_or-set_same c.lines (a % 64) l Empty inside) m)
-          (λ (ne : j ≢ a % 64). rw (get_or-set_other c.lines (a % 64) j l Empty ne) (t.each j k))
-          (cases_eq j (a % 64));
-    }
+    let count = t.count in
+    record { count = length-set c.lines (a % 64) l ∙ count; each = λ j k. let held = t.each j k in grind (arith, common_steps) }
 
 -- a line with the word w of address a alone makes w word a
 counted-placed : (c : Cached) (a : ℕ) (l : Line) (w : ℕ) → Tied c → Free c a → a < length c.below
@@ -183,8 +173,8 @@ tied-empty ws = record { count = length-replicate 64 Empty; each = λ i h. rw (g
 -- where all lines are empty, the cache counts the words below
 pub counted-empty : (c : Cached) → ((i : ℕ) → i < 64 → get_or c.lines i Empty ≡ Empty) → counted c ≡ c.below
 counted-empty c e =
-    ext_get_or 0 (counted c) c.below (length-counted c)
-    (λ b k. get_or-counted c b (rw length-counted at k) ∙ ap (λ (l : Line). unwrap_or (word_in l b) (get_or c.below b 0)) (e (b % 64) (omega arith)))
+    same_number_lists _ _ (length-counted c)
+    (λ b k. let f = e (b % 64) (omega arith) in grind (arith, length-counted, get_or-counted))
 
 pub empty-lines : (i : ℕ) → i < 64 → get_or (replicate 64 Empty) i Empty ≡ Empty
 empty-lines i h = get_or-replicate 64 i Empty Empty h
@@ -208,10 +198,7 @@ empty-after c d i t h e before j k =
 -- a read of an address that the cache holds gives the line's word
 pub held-answer : (c : Cached) (a : ℕ) (o : Option ℕ) → Tied c → o ≡ word_in (line_of c a) a → IfSome o (λ w. read_answer (counted c) a ≡ Ok w)
 held-answer c a None t e = tt
-held-answer c a (Some w) t e =
-    let h = counted-hit c a w t (sym e) in
-    cond-true (ltb a (length (counted c))) (Ok (get_or (counted c) a 0)) (Err Address) (lt-ltb a (length (counted c)) (rw length-counted h.0))
-    ∙ ap Ok h.1
+held-answer c a (Some w) t e = let h = counted-hit c a w t (sym e) in grind (arith, nat_tests, length-counted)
 
 -- a read that misses is refused where the memory below refuses
 pub fetch-refused : (c : Cached) (a : ℕ) (e : MemoryError) → Err e ≡ read_answer c.below a → Err e ≡ read_answer (counted c) a

@@ -1,8 +1,9 @@
 -- Laws of the words in a row of bytes: their number, each word, and what writing one word leaves.
-use Rattle.std.proofs.Common.{◌≡◌, ℕ, ◌+◌, ◌*◌, ◌/◌, ◌%◌, ◌^◌, ◌<◌, ◌≤◌, ◌≢◌, suc, zero, List, [], ◌∷◌, ◌++◌, Some, None, slice_get, length, get_or, take, drop, set, sym, ap, ◌∙◌, ⊎_elim, mod-eq_of_lt, div-one, refl, arith}
-use Rattle.std.proofs.lemmas.Nat.{shr-shr, div-add-mod'}
+use Rattle.std.proofs.Common.{◌≡◌, ℕ, ◌+◌, ◌*◌, ◌/◌, ◌%◌, ◌^◌, ◌<◌, ◌≤◌, ◌≢◌, suc, zero, List, [], ◌∷◌, ◌++◌, Some, None, slice_get, length, get_or, take, drop, set, sym, ap, ◌∙◌, ⊎_elim, div-one, refl, arith}
+use Rattle.std.proofs.lemmas.Nat.{from_le_bytes-to_le_bytes_4}
+use Rattle.std.proofs.lemmas.Grind.{common_steps}
 use Rattle.std.proofs.lemmas.List.FromFn.{length-map-range_with_len, get_or-map-range_with_len}
-use Rattle.std.proofs.lemmas.List.{length-set, get_or-set_same, get_or-set_other, drop-set-lt, ext_get_or}
+use Rattle.std.proofs.lemmas.List.{length-set, get_or-set_same, get_or-set_other, ext_get_or}
 use Rattle.std.proofs.lemmas.List.{drop-drop, get_or-take, get_or-drop}
 use Rattle.std.proofs.lemmas.Option.{slice_get-get_or, slice_get_past}
 use Rattle.std.proofs.lemmas.Bool.{cases_eq, cond_below}
@@ -21,18 +22,9 @@ pub get_or-words_of : (bs : List ℕ) (a : ℕ) → a < length bs / 4 → get_or
 unfolding words_of
 get_or-words_of bs a h = get_or-map-range_with_len (word_at bs) 0 (length bs / 4) a a 0 h (omega arith)
 
--- four digits, each below 256, put together again: q, r and t are the quotients by 256, its square and its cube
-digits : (w q r t a b c : ℕ) → w ≡ q * 256 + a → q ≡ r * 256 + b → r ≡ t * 256 + c → a + b * 256 + c * 65536 + t * 16777216 ≡ w
-digits w q r t a b c e f g = omega arith
-
 -- a word is put together again from its four bytes
 pub from_bytes-byte_of : (w : ℕ) → w < 2 ^ 32 → from_bytes (byte_of 0 w) (byte_of 1 w) (byte_of 2 w) (byte_of 3 w) ≡ w
-from_bytes-byte_of w h =
-    let top : w / 16777216 % 256 ≡ w / 16777216 = mod-eq_of_lt (omega arith) in
-    rw (div-one w, top) (digits w (w / 256) (w / 65536) (w / 16777216) (w % 256) (w / 256 % 256) (w / 65536 % 256)
-    (sym (div-add-mod' w 256))
-    (sym (div-add-mod' (w / 256) 256) ∙ ap (λ (n : ℕ). n * 256 + w / 256 % 256) (shr-shr w 8 8))
-    (sym (div-add-mod' (w / 65536) 256) ∙ ap (λ (n : ℕ). n * 256 + w / 65536 % 256) (shr-shr w 16 8)))
+from_bytes-byte_of w h = rw (div-one w) (from_le_bytes-to_le_bytes_4 w h)
 
 -- four values at k and after it
 abbrev four : List ℕ → ℕ → ℕ → ℕ → ℕ → ℕ → List ℕ
@@ -45,40 +37,13 @@ get_or-four-other bs k j x0 x1 x2 x3 n0 n1 n2 n3 = rw (get_or-set_other, get_or-
 get_or-four : (bs : List ℕ) (k x0 x1 x2 x3 : ℕ) → k + 3 < length bs →
     (get_or (four bs k x0 x1 x2 x3) k 0 ≡ x0) × (get_or (four bs k x0 x1 x2 x3) (k + 1) 0 ≡ x1)
     × (get_or (four bs k x0 x1 x2 x3) (k + 2) 0 ≡ x2) × (get_or (four bs k x0 x1 x2 x3) (k + 3) 0 ≡ x3)
-get_or-four bs k x0 x1 x2 x3 h =
-    let b1 = set bs k x0 in
-    let b2 = set b1 (k + 1) x1 in
-    let b3 = set b2 (k + 2) x2 in
-    let l0 : k < length bs = omega arith in
-    let l1 : k + 1 < length b1 = simp length-set (omega arith) in
-    let l2 : k + 2 < length b2 = simp length-set (omega arith) in
-    let l3 : k + 3 < length b3 = simp length-set h in
-    let n01 : k ≢ k + 1 = omega arith in
-    let n02 : k ≢ k + 2 = omega arith in
-    let n03 : k ≢ k + 3 = omega arith in
-    let n12 : k + 1 ≢ k + 2 = omega arith in
-    let n13 : k + 1 ≢ k + 3 = omega arith in
-    let n23 : k + 2 ≢ k + 3 = omega arith in (
-      get_or-set_other b3 (k + 3) k x3 0 n03 ∙ (get_or-set_other b2 (k + 2) k x2 0 n02 ∙ (get_or-set_other b1 (k + 1) k x1 0 n01 ∙ get_or-set_same bs k x0 0 l0)),
-      get_or-set_other b3 (k + 3) (k + 1) x3 0 n13 ∙ (get_or-set_other b2 (k + 2) (k + 1) x2 0 n12 ∙ get_or-set_same b1 (k + 1) x1 0 l1),
-      get_or-set_other b3 (k + 3) (k + 2) x3 0 n23 ∙ get_or-set_same b2 (k + 2) x2 0 l2,
-      get_or-set_same b3 (k + 3) x3 0 l3,
-    )
+get_or-four bs k x0 x1 x2 x3 h = (grind (arith, common_steps), grind (arith, common_steps), grind (arith, common_steps), grind (arith, common_steps))
 
 pub length-with_word : (bs : List ℕ) (a w : ℕ) → length (with_word bs a w) ≡ length bs
 length-with_word bs a w = simp length-set
 
--- what lies past four values is not touched
-drop-four : (bs : List ℕ) (k n x0 x1 x2 x3 : ℕ) → k + 3 < n → drop n (four bs k x0 x1 x2 x3) ≡ drop n bs
-drop-four bs k n x0 x1 x2 x3 h =
-    let l0 : k < n = omega arith in
-    let l1 : k + 1 < n = omega arith in
-    let l2 : k + 2 < n = omega arith in
-    rw (drop-set-lt, drop-set-lt, drop-set-lt, drop-set-lt)
-
 pub spare-with_word : (bs : List ℕ) (a w : ℕ) → a < length bs / 4 → spare_bytes (with_word bs a w) ≡ spare_bytes bs
-spare-with_word bs a w h =
-    rw (length-with_word bs a w) (drop-four bs (4 * a) (4 * (length bs / 4)) (byte_of 0 w) (byte_of 1 w) (byte_of 2 w) (byte_of 3 w) (omega arith))
+spare-with_word bs a w h = grind (arith, common_steps)
 
 pub word_at-with_word-same : (bs : List ℕ) (a w : ℕ) → a < length bs / 4 → w < 2 ^ 32 → word_at (with_word bs a w) a ≡ w
 word_at-with_word-same bs a w h f =
