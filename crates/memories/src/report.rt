@@ -1,4 +1,7 @@
 // What the report says of calls outside a memory, and of bytes.
+ghost use Rattle.std.specs.Prelude.{Some};
+ghost use Rattle.memories.specs.Shown.{outcome_text, outside_text};
+
 use memory::MemoryError;
 use std::fmt;
 
@@ -11,6 +14,8 @@ pub struct Outside {
 }
 
 impl fmt::Display for Outside {
+    ghost output = { λ o. Some (outside_text o) };
+
     fn fmt<W: fmt::Write>(&self, f: &mut fmt::Formatter<W>) -> fmt::Result {
         let a = self.address;
         let read = Outcome(self.read);
@@ -24,6 +29,8 @@ impl fmt::Display for Outside {
 pub struct Outcome(pub Option<MemoryError>);
 
 impl fmt::Display for Outcome {
+    ghost output = { λ o. Some (outcome_text o.0) };
+
     fn fmt<W: fmt::Write>(&self, f: &mut fmt::Formatter<W>) -> fmt::Result {
         match self.0 {
             Some(e) => write!(f, "{e}"),

@@ -81,6 +81,7 @@ impl Memory for ByteMemory<'_> {
         if a >= self.size() {
             return Err(MemoryError::Address);
         }
+        // Not by `as_chunks_mut`, which does not say what the row holds afterwards.
         let at = 4 * a as usize;
         self.row[at..at + 4].copy_from_slice(&w.to_le_bytes());
         Ok(())

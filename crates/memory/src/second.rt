@@ -63,7 +63,8 @@ impl<M: Memory> SecondLevel<M> {
         below
     }
 
-    // Empties every line, so that the memory below has all words as the cache counts them.
+    // Empties every line, so that the memory below has all words as the cache counts them. It goes by numbers, since
+    // which addresses a line may hold depends on its number.
     fn give_up_all(&mut self)
         requires { SoundCache M.Memory.words M.Memory.sound self.old }
         ensures words { M.Memory.words self.new.below ≡ counted (cached_of M.Memory.words self.old) }

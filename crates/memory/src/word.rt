@@ -48,6 +48,7 @@ impl Memory for WordMemory<'_> {
         self.row.len() as u32
     }
 
+    // Tested and indexed: of a row that `get` has lent a part of, nothing is known afterwards.
     fn read(&mut self, a: u32) -> Result<u32, MemoryError> {
         if a as usize >= self.row.len() {
             return Err(MemoryError::Address);
