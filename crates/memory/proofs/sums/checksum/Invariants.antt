@@ -1,6 +1,6 @@
 use Rattle.std.proofs.Common.{◌≡◌, take}
 use Rattle.memory.specs.Adler.{adler32}
-use Rattle.memory.proofs.sums.sum_words.Given as goal
+use Rattle.memory.proofs.sums.checksum.Given as goal
 
 -- the words before a are summed up
 abbrev pub invariant-loop-a : goal.invariant-loop-a

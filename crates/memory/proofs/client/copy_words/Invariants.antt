@@ -1,6 +1,6 @@
 use Rattle.std.proofs.Common.{◌≡◌}
 use Rattle.memory.specs.Client.{copied}
-use Rattle.memory.proofs.client.copy_first.Given as goal
+use Rattle.memory.proofs.client.copy_words.Given as goal
 
 -- the words before a are copied
 abbrev pub invariant-loop-a : goal.invariant-loop-a

@@ -1,6 +1,6 @@
 use Rattle.std.proofs.Common.{◌≡◌, ◌≤◌}
 use Rattle.memory.specs.Client.{differences}
-use Rattle.memory.proofs.client.count_first.Given as goal
+use Rattle.memory.proofs.client.count_differences.Given as goal
 
 -- the differences before a are counted
 abbrev pub invariant-loop-a : goal.invariant-loop-a
