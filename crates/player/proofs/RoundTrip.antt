@@ -8,6 +8,7 @@ use Rattle.std.proofs.lemmas.Fmt.{decimal_digit, decimal_nonempty, first_decimal
 use Rattle.std.proofs.lemmas.List.{append_assoc, append-nil, flat_map_more, take_more}
 use Rattle.std.proofs.lemmas.Bool.{and_parts, cond-true, cond-false, eq-eqb, ne_eqb, leb-true, lt-ltb, cases_lt}
 use Rattle.versions.specs.declared.turn.Turn.{Turn}
+use Rattle.versions.specs.Turns.{turn_text as turn_shown}
 use Rattle.versions.specs.declared.turn.Turn.TheVariants.{Start, Load, Store, Squash, Commit, Replace}
 use Rattle.player.specs.declared.fault.TextWhy.{TextWhy}
 use Rattle.player.specs.declared.fault.TextWhy.TheVariants as why
@@ -152,13 +153,11 @@ text-more ts i d bs line h bs-is line-is =
     ∙ (ap (λ (l : List ℕ). text_of (take i ts) ++ l) line-is
     ∙ (flat_map_more line_of [] (take i ts) (get_or ts i d) ∙ ap text_of (sym (take_more ts i d h))))
 
--- a line as it is formatted, with one field, two or three
-pub one_field : (front : List ℕ) (p : ℕ) → front ++ (decimal p ++ codes "\n") ≡ front ++ (flat_map decimal (p ∷ []) ++ line_end ∷ [])
-one_field front p = simp append_assoc
-
-pub two_fields : (front : List ℕ) (p a : ℕ) → front ++ (decimal p ++ (codes " " ++ (decimal a ++ codes "\n"))) ≡ front ++ ((decimal p ++ flat_map field_text (a ∷ [])) ++ line_end ∷ [])
-two_fields front p a = simp append_assoc
-
-pub three-fields : (front : List ℕ) (p a w : ℕ)
-    → front ++ (decimal p ++ (codes " " ++ (decimal a ++ (codes " " ++ (decimal w ++ codes "\n"))))) ≡ front ++ ((decimal p ++ flat_map field_text (a ∷ w ∷ [])) ++ line_end ∷ [])
-three-fields front p a w = simp append_assoc
+-- a turn as it shows itself
+pub line-written : (t : Turn) → turn_shown t ++ codes "\n" ≡ line_of t
+line-written (Start p) = simp append_assoc
+line-written (Load p a) = simp append_assoc
+line-written (Store p a w) = simp append_assoc
+line-written (Squash p) = simp append_assoc
+line-written (Commit p) = simp append_assoc
+line-written (Replace p a) = simp append_assoc
