@@ -3,7 +3,7 @@ ghost use Rattle.std.specs.Prelude.{◌≡◌, length, take, drop};
 ghost use Rattle.versions.specs.Plain.{opened, active_tasks, answers_of, state_after_all};
 ghost use Rattle.versions.specs.Sequential.{ReadsOn, paired};
 ghost use Rattle.player.specs.Image.{loaded_words};
-ghost use Rattle.player.specs.Lists.{content, free, Within};
+ghost use Rattle.player.specs.Lists.{content, free};
 ghost use Rattle.player.specs.Scripts.{Gained, Performed, places_answer, script_in, text_script, told};
 
 use crate::fault::{ListFault, PlayerFault};
@@ -22,11 +22,8 @@ pub fn play_snooping<M: Memory>(
     turns: &mut RowList<Turn>,
     answers: &mut RowList<Answer>,
 ) -> (M, Result<u32, PlayerFault>)
-    requires sound { M.Memory.sound memory }
-    requires turns_within { Within turns.old }
-    requires answers_within { Within answers.old }
+    requires { M.Memory.sound memory }
     ensures performed { Performed (opened (loaded_words (M.Memory.words memory) image.now)) (script_in (M.Memory.words memory) image.now text.now turns.old answers.old) turns.old turns.new answers.old answers.new result.1 (M.Memory.words result.0) }
-    ensures within { Within turns.new × Within answers.new }
     ensures beside { M.Memory.spare result.0 ≡ M.Memory.spare memory }
     ensures kept { M.Memory.sound result.0 }
 {
@@ -46,11 +43,8 @@ pub fn play_central<M: Memory>(
     turns: &mut RowList<Turn>,
     answers: &mut RowList<Answer>,
 ) -> (M, Result<u32, PlayerFault>)
-    requires sound { M.Memory.sound memory }
-    requires turns_within { Within turns.old }
-    requires answers_within { Within answers.old }
+    requires { M.Memory.sound memory }
     ensures performed { Performed (opened (loaded_words (M.Memory.words memory) image.now)) (script_in (M.Memory.words memory) image.now text.now turns.old answers.old) turns.old turns.new answers.old answers.new result.1 (M.Memory.words result.0) }
-    ensures within { Within turns.new × Within answers.new }
     ensures beside { M.Memory.spare result.0 ≡ M.Memory.spare memory }
     ensures kept { M.Memory.sound result.0 }
 {
@@ -76,14 +70,9 @@ pub fn play_both<M: Memory, N: Memory>(
 ) -> ((M, Result<u32, PlayerFault>), (N, Result<u32, PlayerFault>))
     requires one_sound { M.Memory.sound one }
     requires other_sound { N.Memory.sound other }
-    requires turns_within { Within turns.old }
-    requires snooped_within { Within snooped.old }
-    requires again_within { Within again.old }
-    requires buffered_within { Within buffered.old }
     ensures one { Performed (opened (loaded_words (M.Memory.words one) image.now)) (script_in (M.Memory.words one) image.now text.now turns.old snooped.old) turns.old turns.new snooped.old snooped.new result.0.1 (M.Memory.words result.0.0) }
     ensures other { Performed (opened (loaded_words (N.Memory.words other) image.now)) (script_in (N.Memory.words other) image.now text.now again.old buffered.old) again.old again.new buffered.old buffered.new result.1.1 (N.Memory.words result.1.0) }
     ensures alike { M.Memory.words one ≡ N.Memory.words other → free turns.old ≡ free again.old → free snooped.old ≡ free buffered.old → content snooped.old ≡ content buffered.old → (result.0.1 ≡ result.1.1) × (content snooped.new ≡ content buffered.new) × (M.Memory.words result.0.0 ≡ N.Memory.words result.1.0) }
-    ensures within { (Within turns.new × Within snooped.new) × (Within again.new × Within buffered.new) }
     ensures beside { (M.Memory.spare result.0.0 ≡ M.Memory.spare one) × (N.Memory.spare result.1.0 ≡ N.Memory.spare other) }
     ensures kept { M.Memory.sound result.0.0 × N.Memory.sound result.1.0 }
 {
@@ -101,15 +90,12 @@ pub fn play_text<S: VersionStore>(
     turns: &mut RowList<Turn>,
     answers: &mut RowList<Answer>,
 ) -> Result<u32, PlayerFault>
-    requires sound { S.VersionStore.sound store.old }
-    requires turns_within { Within turns.old }
-    requires answers_within { Within answers.old }
+    requires { S.VersionStore.sound store.old }
     ensures answer { result ≡ told (text_script (free turns.old) (free answers.old) text.now).answer (active_tasks (S.VersionStore.plain store.new)) }
     ensures turns { Gained turns.old (text_script (free turns.old) (free answers.old) text.now).read turns.new }
     ensures answers { Gained answers.old (answers_of (S.VersionStore.plain store.old) (text_script (free turns.old) (free answers.old) text.now).played) answers.new }
     ensures after { S.VersionStore.plain store.new ≡ state_after_all (S.VersionStore.plain store.old) (text_script (free turns.old) (free answers.old) text.now).played }
     ensures sequential { ReadsOn (S.VersionStore.plain store.old) (paired (text_script (free turns.old) (free answers.old) text.now).played (drop (length (content answers.old)) (content answers.new))) (S.VersionStore.plain store.new) }
-    ensures within { Within turns.new × Within answers.new }
     ensures beside { S.VersionStore.spare store.new ≡ S.VersionStore.spare store.old }
     ensures kept { S.VersionStore.sound store.new }
 {
@@ -125,11 +111,8 @@ fn perform<S: VersionStore>(
     turns: &mut RowList<Turn>,
     answers: &mut RowList<Answer>,
 ) -> (S::Below, Result<u32, PlayerFault>)
-    requires sound { S.VersionStore.sound store }
-    requires turns_within { Within turns.old }
-    requires answers_within { Within answers.old }
+    requires { S.VersionStore.sound store }
     ensures performed { Performed (S.VersionStore.plain store) (text_script (free turns.old) (free answers.old) text.now) turns.old turns.new answers.old answers.new result.1 (S.Below.Memory.words result.0) }
-    ensures within { Within turns.new × Within answers.new }
     ensures beside { S.Below.Memory.spare result.0 ≡ S.VersionStore.spare store }
     ensures kept { S.Below.Memory.sound result.0 }
 {
@@ -144,23 +127,21 @@ fn play_each<S: VersionStore>(
     turns: &[Turn],
     answers: &mut RowList<Answer>,
 ) -> Result<u32, PlayerFault>
-    requires sound { S.VersionStore.sound store.old }
-    requires answers_within { Within answers.old }
+    requires { S.VersionStore.sound store.old }
     ensures answer { result ≡ told (places_answer (free answers.old) turns.now) (active_tasks (S.VersionStore.plain store.new)) }
     ensures answers { Gained answers.old (answers_of (S.VersionStore.plain store.old) (take (free answers.old) turns.now)) answers.new }
     ensures after { S.VersionStore.plain store.new ≡ state_after_all (S.VersionStore.plain store.old) (take (free answers.old) turns.now) }
-    ensures within { Within answers.new }
     ensures beside { S.VersionStore.spare store.new ≡ S.VersionStore.spare store.old }
     ensures kept { S.VersionStore.sound store.new }
 {
-    for i in 0..turns.len() {
+    for (i, turn) in turns.iter().enumerate() {
         if answers.is_full() {
             return Err(PlayerFault::Results {
                 fault: ListFault::Full,
                 turn: i,
             });
         }
-        let _ = answers.push(store.take_turn(turns[i]));
+        let _ = answers.push(store.take_turn(*turn));
     }
     Ok(store.tasks())
 }

@@ -12,7 +12,6 @@ returns g c =
       performed = text-performed (m.plain c.args.store) (m.plain c.play_text-outcome.new.store) (text_script (free c.args.turns.now) (free c.args.answers.now) c.args.text.now)
           c.args.turns.now c.play_text-outcome.new.turns c.args.answers.now c.play_text-outcome.new.answers c.play_text-outcome.result _
           e.after e.answer e.turns e.answers c.close.ensures.words e.sequential;
-      within = e.within;
       beside = c.close.ensures.beside ∙ e.beside;
       kept = c.close.ensures.kept;
     }

@@ -9,7 +9,6 @@ returns g c =
       one = one.performed;
       other = other.performed;
       alike = performed-alike _ _ c.args.image.now c.args.text.now _ _ _ _ _ _ _ _ _ _ _ _ one.performed other.performed;
-      within = (one.within, other.within);
       beside = (one.beside, other.beside);
       kept = (one.kept, other.kept);
     }

@@ -31,8 +31,7 @@ loop-i-preserved g c =
         c.push.ensures.room ∙ inv.2.2,
       ),
       subst (λ (k : ℕ). i + 1 ≤ k - length (content l₀)) inv.2.2 a.2,
-      c.push.ensures.within,
-      c.take_turn.ensures.beside ∙ inv.5,
+      c.take_turn.ensures.beside ∙ inv.4,
     )
 
 pub returns-then-is_full : goal.returns-then-is_full
@@ -54,8 +53,7 @@ returns-then-is_full g c =
         inv.2.2,
       );
       after = inv.1 ∙ ap (λ (k : ℕ). state_after_all s (take k ts)) all;
-      within = inv.4;
-      beside = inv.5;
+      beside = inv.4;
       kept = inv.0;
     }
 
@@ -77,7 +75,6 @@ returns g c =
         inv.2.2,
       );
       after = inv.1 ∙ ap (λ (x : List Turn). state_after_all s x) all;
-      within = inv.4;
-      beside = inv.5;
+      beside = inv.4;
       kept = inv.0;
     }

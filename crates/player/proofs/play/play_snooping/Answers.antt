@@ -21,7 +21,6 @@ returns-in-Err g c =
     record {
       performed = subst (λ (x : List ℕ). Performed (opened (loaded_words x image)) (script_in x image text l a) l l a a (Err (Image e)) vs) (ap m.words was)
           (refused-performed (m.words c.new-loading.result.memory) image text e l a vs load.answer (ap m.words c.close.ensures ∙ load.after));
-      within = (c.requires.turns_within, c.requires.answers_within);
       beside = ap m.spare c.close.ensures ∙ (load.beside ∙ ap m.spare was);
       kept = subst m.sound (sym c.close.ensures) load.kept;
     }
@@ -43,7 +42,6 @@ returns g c =
       performed = subst (λ (x : List ℕ). Performed (opened (loaded_words x image)) (script_in x image text l a) l l' a a' c.perform.result.1 vs) (ap m.words was)
           (loaded-performed (plain_in m.words c.open_snooping.result) (m.words c.new-loading.result.memory) (m.words c.load.new.self.memory) image text c.in_default.field-0 l l' a a' c.perform.result.1 vs
           load.answer c.open_snooping.ensures.plain load.after e.performed);
-      within = e.within;
       beside = e.beside ∙ (c.open_snooping.ensures.beside ∙ (load.beside ∙ ap m.spare was));
       kept = e.kept;
     }

@@ -40,9 +40,8 @@ returns-in_err-read_turns g c =
       );
       after = stay;
       sequential = gained-reads-on s s (text_script (free l₀) (free a₀) text).played (content a₀) (content a₀) none stay;
-      within = (read.within, c.requires.answers_within);
       beside = refl;
-      kept = c.requires.sound;
+      kept = c.requires;
     }
 
 pub slice_bounds-play_each-count : goal.slice_bounds-play_each-count
@@ -89,7 +88,6 @@ returns g c =
       );
       after = moved;
       sequential = gained-reads-on s t (text_script (free l₀) (free a₀) text).played (content a₀) (content a) gained moved;
-      within = (read.within, e.within);
       beside = e.beside;
       kept = e.kept;
     }

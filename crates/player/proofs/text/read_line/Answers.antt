@@ -20,7 +20,6 @@ returns-in_err-push c =
       after = c.push.ensures.after ∙ ap (λ (q : Result Turn TextWhy). listed q (content l) (room l)) is;
       row = c.push.ensures.row ∙ ap (λ (q : Result Turn TextWhy). listed_row q (content l) (room l) (row_of l)) is;
       room = c.push.ensures.room;
-      within = c.push.ensures.within;
       line = rw p.1 tt;
       place = c.in_ok-turn.ensures.place;
     }
@@ -36,7 +35,6 @@ returns c =
       after = c.push.ensures.after ∙ ap (λ (q : Result Turn TextWhy). listed q (content l) (room l)) is;
       row = c.push.ensures.row ∙ ap (λ (q : Result Turn TextWhy). listed_row q (content l) (room l) (row_of l)) is;
       room = c.push.ensures.room;
-      within = c.push.ensures.within;
       line = c.in_ok-turn.ensures.line;
       place = c.in_ok-turn.ensures.place;
     }

@@ -13,9 +13,8 @@ pub read_line-requires : goal.read_line-requires
 read_line-requires c =
     let e = c.in-Some.ensures in
     record {
-      place_fits = omega (arith, e.place, c.loop-first.invariant.3);
+      place_fits = omega (arith, e.place, c.loop-first.invariant.2);
       between_parts = ap part_length e.text ∙ (after-part c.loop-first.tokens.rest.now).2;
-      turns_within = c.loop-first.invariant.2;
     }
 
 pub returns-in-Err : goal.returns-in-Err
@@ -38,7 +37,6 @@ returns-in-Err c =
       row = d.rows;
       exact = text-exact (free l₀) c.args.text.now;
       room = f.room ∙ c.loop-first.invariant.1;
-      within = f.within;
     }
 
 pub loop-first-smaller : goal.loop-first-smaller
@@ -70,8 +68,7 @@ loop-first-preserved c =
     f.answer f.after f.row rest place c.loop-first.invariant.0 in (
       subst (λ (k : ℕ). Begun (content l₀) (row_of l₀) all (content l') (row_of l') (lines_read t'.at (k - length (content l')) (split line_end t'.rest.now))) (sym f.room) d,
       f.room ∙ c.loop-first.invariant.1,
-      f.within,
-      place ∙ c.loop-first.invariant.3,
+      place ∙ c.loop-first.invariant.2,
     )
 
 pub returns : goal.returns
@@ -87,5 +84,4 @@ returns c =
       row = d.2;
       exact = text-exact (free l₀) c.args.text.now;
       room = c.loop-first.invariant.1;
-      within = c.loop-first.invariant.2;
     }

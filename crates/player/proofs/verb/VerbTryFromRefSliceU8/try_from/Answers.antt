@@ -1,0 +1,15 @@
+use Rattle.std.proofs.Common.{codes, refl, arith}
+use Rattle.std.proofs.lemmas.Slice.Eq.{text_from_reads}
+use Rattle.player.proofs.verb.VerbTryFromRefSliceU8.try_from.Goals as goal
+
+pub returns-in-squash : goal.returns-in-squash
+returns-in-squash c =
+    rw (text_from_reads c.args.word.now (codes "squash") (omega arith) (omega arith, (omega arith, (omega arith, (omega arith, (omega arith, (omega arith, tt))))))) refl
+
+pub returns-in-commit : goal.returns-in-commit
+returns-in-commit c =
+    rw (text_from_reads c.args.word.now (codes "commit") (omega arith) (omega arith, (omega arith, (omega arith, (omega arith, (omega arith, (omega arith, tt))))))) refl
+
+pub returns-in-replace : goal.returns-in-replace
+returns-in-replace c =
+    rw (text_from_reads c.args.word.now (codes "replace") (omega arith) (omega arith, (omega arith, (omega arith, (omega arith, (omega arith, (omega arith, (omega arith, tt)))))))) refl
