@@ -1,5 +1,6 @@
 -- Answers added to a list, one for each turn that is played.
 use Rattle.std.proofs.Common.{◌≡◌, ℕ, suc, ◌+◌, ◌-◌, ◌<◌, ◌≤◌, true, false, cond, List, [], ◌∷◌, ◌++◌, length, get_or, take, drop, set, Err, Result, sym, refl, ap, ◌∙◌, subst, arith}
+use Rattle.std.proofs.Math.Seq.{drop-append_seam}
 use Rattle.std.proofs.lemmas.List.{append_assoc, take_more, length-take-le, length-append}
 use Rattle.std.proofs.lemmas.Bool.{cond-true, cond-false, leb-true, leb-false, lt-ltb}
 use Rattle.versions.specs.declared.refusal.Refusal.{Refusal}
@@ -62,10 +63,6 @@ no_place places i n ts h e =
     ap (λ (k : ℕ). Err (Results Full k)) e
     ∙ ap (λ (r : Result (Unit {0}) PlayerFault). told r n) (sym (cond-true _ _ _ (lt-ltb places (length ts) (omega arith))))
 
-drop-front : {X : Type 0} (xs ys : List X) → drop (length xs) (xs ++ ys) ≡ ys
-drop-front [] ys = refl
-drop-front (x ∷ xs) ys = drop-front xs ys
-
 leads-all : (s : Plain) (ts : List Turn) → Leads s (paired ts (answers_of s ts)) (state_after_all s ts)
 leads-all s [] = refl
 leads-all s (t ∷ ts) = (refl, leads-all (state_after s t) ts)
@@ -74,7 +71,7 @@ leads-all s (t ∷ ts) = (refl, leads-all (state_after s t) ts)
 pub gained-reads-on : (s t : Plain) (ts : List Turn) (xs₀ xs : List (Result ℕ Refusal)) → xs ≡ xs₀ ++ answers_of s ts → t ≡ state_after_all s ts
     → ReadsOn s (paired ts (drop (length xs₀) xs)) t
 gained-reads-on s t ts xs₀ xs xs-is t-is =
-    let new : drop (length xs₀) xs ≡ answers_of s ts = ap (drop (length xs₀)) xs-is ∙ drop-front xs₀ (answers_of s ts) in
+    let new : drop (length xs₀) xs ≡ answers_of s ts = ap (drop (length xs₀)) xs-is ∙ drop-append_seam xs₀ (answers_of s ts) in
     reads_on s (paired ts (drop (length xs₀) xs)) t
     (subst (λ (x : List (Result ℕ Refusal)). Leads s (paired ts x) t) (sym new)
     (subst (Leads s (paired ts (answers_of s ts))) (sym t-is) (leads-all s ts)))

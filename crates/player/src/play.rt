@@ -11,48 +11,29 @@ use crate::list::RowList;
 use crate::loading::Loading;
 use crate::text::read_turns;
 use memory::Memory;
-use stores::{Answer, Turn, VersionStore};
+use stores::{Answer, CentralBuffer, SnoopingStore, Turn, VersionStore};
 
-// Loads an image into a memory and plays a text of turns over it on the snooping store: image first, then the whole text, then
+// Loads an image into a memory and plays a text of turns over it on a version store S: image first, then the whole text, then
 // turn by turn. It gives the memory back, with the number of active tasks or the fault. A refused image changes nothing.
-pub fn play_snooping<M: Memory>(
-    memory: M,
+pub fn play_on<S: VersionStore>(
+    memory: S::Below,
     image: &[u8],
     text: &[u8],
     turns: &mut RowList<Turn>,
     answers: &mut RowList<Answer>,
-) -> (M, Result<u32, PlayerFault>)
-    requires { M.Memory.sound memory }
-    ensures performed { Performed (opened (loaded_words (M.Memory.words memory) image.now)) (script_in (M.Memory.words memory) image.now text.now turns.old answers.old) turns.old turns.new answers.old answers.new result.1 (M.Memory.words result.0) }
-    ensures beside { M.Memory.spare result.0 ≡ M.Memory.spare memory }
-    ensures kept { M.Memory.sound result.0 }
+) -> (S::Below, Result<u32, PlayerFault>)
+    requires { S.Below.Memory.sound memory }
+    ensures performed { Performed (opened (loaded_words (S.Below.Memory.words memory) image.now)) (script_in (S.Below.Memory.words memory) image.now text.now turns.old answers.old) turns.old turns.new answers.old answers.new result.1 (S.Below.Memory.words result.0) }
+    ensures beside { S.Below.Memory.spare result.0 ≡ S.Below.Memory.spare memory }
+    ensures kept { S.Below.Memory.sound result.0 }
 {
     let mut loading = Loading::new(memory);
     if let Err(fault) = loading.load(image) {
         return (loading.close(), Err(PlayerFault::Image(fault)));
     }
-    perform(loading.open_snooping(), text, turns, answers)
-}
-
-// Loads an image into a memory and plays a text of turns over it on the central buffer: image first, then the whole text, then
-// turn by turn. It gives the memory back, with the number of active tasks or the fault. A refused image changes nothing.
-pub fn play_central<M: Memory>(
-    memory: M,
-    image: &[u8],
-    text: &[u8],
-    turns: &mut RowList<Turn>,
-    answers: &mut RowList<Answer>,
-) -> (M, Result<u32, PlayerFault>)
-    requires { M.Memory.sound memory }
-    ensures performed { Performed (opened (loaded_words (M.Memory.words memory) image.now)) (script_in (M.Memory.words memory) image.now text.now turns.old answers.old) turns.old turns.new answers.old answers.new result.1 (M.Memory.words result.0) }
-    ensures beside { M.Memory.spare result.0 ≡ M.Memory.spare memory }
-    ensures kept { M.Memory.sound result.0 }
-{
-    let mut loading = Loading::new(memory);
-    if let Err(fault) = loading.load(image) {
-        return (loading.close(), Err(PlayerFault::Image(fault)));
-    }
-    perform(loading.open_buffer(), text, turns, answers)
+    let mut store = loading.open::<S>();
+    let outcome = play_text(&mut store, text, turns, answers);
+    (store.close(), outcome)
 }
 
 // Plays the same text after the same image on a snooping store over one memory and on a central buffer over another.
@@ -76,8 +57,8 @@ pub fn play_both<M: Memory, N: Memory>(
     ensures beside { (M.Memory.spare result.0.0 ≡ M.Memory.spare one) × (N.Memory.spare result.1.0 ≡ N.Memory.spare other) }
     ensures kept { M.Memory.sound result.0.0 × N.Memory.sound result.1.0 }
 {
-    let snooping = play_snooping(one, image, text, turns, snooped);
-    let central = play_central(other, image, text, again, buffered);
+    let snooping = play_on::<SnoopingStore<M>>(one, image, text, turns, snooped);
+    let central = play_on::<CentralBuffer<N>>(other, image, text, again, buffered);
     (snooping, central)
 }
 
@@ -102,22 +83,6 @@ pub fn play_text<S: VersionStore>(
     let before = turns.len();
     read_turns(text, turns)?;
     play_each(store, &turns.items()[before..], answers)
-}
-
-// Plays a text on a store and closes it.
-fn perform<S: VersionStore>(
-    mut store: S,
-    text: &[u8],
-    turns: &mut RowList<Turn>,
-    answers: &mut RowList<Answer>,
-) -> (S::Below, Result<u32, PlayerFault>)
-    requires { S.VersionStore.sound store }
-    ensures performed { Performed (S.VersionStore.plain store) (text_script (free turns.old) (free answers.old) text.now) turns.old turns.new answers.old answers.new result.1 (S.Below.Memory.words result.0) }
-    ensures beside { S.Below.Memory.spare result.0 ≡ S.VersionStore.spare store }
-    ensures kept { S.Below.Memory.sound result.0 }
-{
-    let outcome = play_text(&mut store, text, turns, answers);
-    (store.close(), outcome)
 }
 
 // Plays turns one by one and adds each answer to a list, until there is no turn or no place left. It gives the number of

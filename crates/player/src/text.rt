@@ -11,7 +11,7 @@ ghost use Rattle.player.specs.Tokens.{text_left, end_of, part_length, word_seen}
 use crate::fault::{TextFault, TextWhy};
 use crate::list::RowList;
 use crate::number::number;
-use crate::token::{Placed, Token, Tokens};
+use crate::token::{Token, Tokens};
 use crate::verb::Verb;
 use stores::Turn;
 
@@ -40,13 +40,7 @@ fn read_field(tokens: &mut Tokens) -> Result<u32, TextWhy>
     ensures field { MatchResult result (FieldTaken (text_left tokens.old) (text_left tokens.new)) (NoField (text_left tokens.old)) }
     ensures place { end_of tokens.new ≡ end_of tokens.old }
 {
-    let Some(
-        Placed {
-            token: Token::Number(part),
-            ..
-        },
-    ) = tokens.next()
-    else {
+    let Some(Token::Number(part)) = tokens.next().map(|placed| placed.token) else {
         return Err(TextWhy::Field);
     };
     number(part)
@@ -59,27 +53,23 @@ fn read_fields(verb: Verb, tokens: &mut Tokens) -> Result<Turn, TextWhy>
     ensures turn { MatchResult result (TurnTaken verb (text_left tokens.old) (text_left tokens.new)) (NoTurn verb (text_left tokens.old)) }
     ensures place { end_of tokens.new ≡ end_of tokens.old }
 {
+    // Every turn's first field is its processor.
+    let p = read_field(tokens)?;
     let turn = match verb {
-        Verb::Start => Turn::Start {
-            p: read_field(tokens)?,
-        },
+        Verb::Start => Turn::Start { p },
         Verb::Load => Turn::Load {
-            p: read_field(tokens)?,
+            p,
             a: read_field(tokens)?,
         },
         Verb::Store => Turn::Store {
-            p: read_field(tokens)?,
+            p,
             a: read_field(tokens)?,
             w: read_field(tokens)?,
         },
-        Verb::Squash => Turn::Squash {
-            p: read_field(tokens)?,
-        },
-        Verb::Commit => Turn::Commit {
-            p: read_field(tokens)?,
-        },
+        Verb::Squash => Turn::Squash { p },
+        Verb::Commit => Turn::Commit { p },
         Verb::Replace => Turn::Replace {
-            p: read_field(tokens)?,
+            p,
             a: read_field(tokens)?,
         },
     };
@@ -94,13 +84,7 @@ fn read_end(tokens: &mut Tokens) -> Result<(), TextWhy>
     ensures line { OnOk result (after line_end (text_left tokens.old) ≡ Some (text_left tokens.new)) }
     ensures place { end_of tokens.new ≡ end_of tokens.old }
 {
-    let Some(
-        Placed {
-            token: Token::LineEnd,
-            ..
-        },
-    ) = tokens.next()
-    else {
+    let Some(Token::LineEnd) = tokens.next().map(|placed| placed.token) else {
         return Err(TextWhy::Field);
     };
     Ok(())

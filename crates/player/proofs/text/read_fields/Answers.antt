@@ -2,32 +2,17 @@ use Rattle.std.proofs.Common.{rules}
 use Rattle.player.proofs.Following.{first_refused, second_refused, third_refused}
 use Rattle.player.proofs.text.read_fields.Goals as goal
 
-pub returns-in_err-read_field-in-Start-clause-turn : goal.returns-in_err-read_field-in-Start-clause-turn
-returns-in_err-read_field-in-Start-clause-turn c = search (rules, first_refused)
+pub returns-in_err-p-clause-turn : goal.returns-in_err-p-clause-turn
+returns-in_err-p-clause-turn c = search (rules, first_refused)
 
 pub returns-in_err-read_field-in-Load-clause-turn : goal.returns-in_err-read_field-in-Load-clause-turn
-returns-in_err-read_field-in-Load-clause-turn c = search (rules, first_refused)
-
-pub returns-in_err-read_field-in-Load-2-clause-turn : goal.returns-in_err-read_field-in-Load-2-clause-turn
-returns-in_err-read_field-in-Load-2-clause-turn c = search (rules, second_refused)
+returns-in_err-read_field-in-Load-clause-turn c = search (rules, second_refused)
 
 pub returns-in_err-read_field-in-Store-clause-turn : goal.returns-in_err-read_field-in-Store-clause-turn
-returns-in_err-read_field-in-Store-clause-turn c = search (rules, first_refused)
+returns-in_err-read_field-in-Store-clause-turn c = search (rules, second_refused)
 
 pub returns-in_err-read_field-in-Store-2-clause-turn : goal.returns-in_err-read_field-in-Store-2-clause-turn
-returns-in_err-read_field-in-Store-2-clause-turn c = search (rules, second_refused)
-
-pub returns-in_err-read_field-in-Store-3-clause-turn : goal.returns-in_err-read_field-in-Store-3-clause-turn
-returns-in_err-read_field-in-Store-3-clause-turn c = search (rules, third_refused)
-
-pub returns-in_err-read_field-in-Squash-clause-turn : goal.returns-in_err-read_field-in-Squash-clause-turn
-returns-in_err-read_field-in-Squash-clause-turn c = search (rules, first_refused)
-
-pub returns-in_err-read_field-in-Commit-clause-turn : goal.returns-in_err-read_field-in-Commit-clause-turn
-returns-in_err-read_field-in-Commit-clause-turn c = search (rules, first_refused)
+returns-in_err-read_field-in-Store-2-clause-turn c = search (rules, third_refused)
 
 pub returns-in_err-read_field-in-Replace-clause-turn : goal.returns-in_err-read_field-in-Replace-clause-turn
-returns-in_err-read_field-in-Replace-clause-turn c = search (rules, first_refused)
-
-pub returns-in_err-read_field-in-Replace-2-clause-turn : goal.returns-in_err-read_field-in-Replace-2-clause-turn
-returns-in_err-read_field-in-Replace-2-clause-turn c = search (rules, second_refused)
+returns-in_err-read_field-in-Replace-clause-turn c = search (rules, second_refused)
