@@ -3,8 +3,8 @@
 
 use files::read_start;
 use memory::WordMemory;
-use player::{RowList, listing, play_central};
-use stores::Turn;
+use player::{RowList, listing, play_on};
+use stores::{CentralBuffer, Turn};
 
 // As much of a file as is read.
 const MOST_BYTES: usize = 32768;
@@ -28,7 +28,7 @@ fn run(rt: &HostRuntime) -> anyhow::Result<()> {
     let mut turns = RowList::new(turn_row.as_mut_slice());
     let mut answers = RowList::new(answer_row.as_mut_slice());
     WordMemory::check(words.as_slice())?;
-    let (memory, outcome) = play_central(
+    let (memory, outcome) = play_on::<CentralBuffer<WordMemory>>(
         WordMemory::open(words.as_mut_slice()),
         &image.as_slice()[..image_len],
         &text.as_slice()[..text_len],

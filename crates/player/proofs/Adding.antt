@@ -1,7 +1,8 @@
 -- Answers added to a list, one for each turn that is played.
-use Rattle.std.proofs.Common.{◌≡◌, ℕ, suc, ◌+◌, ◌-◌, ◌<◌, ◌≤◌, true, false, cond, List, [], ◌∷◌, ◌++◌, length, get_or, take, drop, set, Ok, Err, Result, sym, refl, ap, ◌∙◌, subst, arith}
-use Rattle.std.proofs.lemmas.List.{append_assoc, take_more, length-take-le, length-append, take_rest}
-use Rattle.std.proofs.lemmas.Bool.{cond-true, cond-false, leb-true, leb-false, lt-ltb, le-ltb}
+use Rattle.std.proofs.Common.{◌≡◌, ℕ, suc, ◌+◌, ◌-◌, ◌<◌, ◌≤◌, true, false, cond, List, [], ◌∷◌, ◌++◌, length, get_or, take, drop, set, Err, Result, sym, refl, ap, ◌∙◌, subst, arith}
+use Rattle.std.proofs.Math.Seq.{drop-append_seam}
+use Rattle.std.proofs.lemmas.List.{append_assoc, take_more, length-take-le, length-append}
+use Rattle.std.proofs.lemmas.Bool.{cond-true, cond-false, leb-true, leb-false, lt-ltb}
 use Rattle.versions.specs.declared.refusal.Refusal.{Refusal}
 use Rattle.versions.specs.declared.turn.Turn.{Turn}
 use Rattle.versions.specs.Plain.{Plain, answer_of, state_after, answers_of, state_after_all}
@@ -9,11 +10,10 @@ use Rattle.versions.specs.Sequential.{Leads, ReadsOn, paired}
 use Rattle.versions.proofs.Reading.{reads_on}
 use Rattle.player.specs.declared.fault.ListFault.TheVariants.{Full}
 use Rattle.player.specs.declared.fault.PlayerFault.{PlayerFault}
-use Rattle.player.specs.declared.fault.PlayerFault.TheVariants.{Text, Results}
-use Rattle.player.specs.declared.fault.TextFault.{TextFault}
+use Rattle.player.specs.declared.fault.PlayerFault.TheVariants.{Results}
 use Rattle.player.specs.Lists.{is_full, pushed}
-use Rattle.player.specs.Scripts.{places_answer, read_script, text_script, told}
-use Rattle.player.specs.Text.{text_read, written}
+use Rattle.player.specs.Scripts.{places_answer, told}
+use Rattle.player.specs.Text.{written}
 
 answers_of-push : (s : Plain) (ts : List Turn) (t : Turn) → answers_of s (ts ++ t ∷ []) ≡ answers_of s ts ++ answer_of (state_after_all s ts) t ∷ []
 answers_of-push s [] t = refl
@@ -57,39 +57,11 @@ all-added xs₀ new n i xs many full xs-is bound =
 pub length-played : (s : Plain) (ts : List Turn) (i : ℕ) → i ≤ length ts → length (answers_of s (take i ts)) ≡ i
 length-played s ts i h = length-answers_of s (take i ts) ∙ length-take-le i ts h
 
--- the fault of the first turn without a place, and that there is none
+-- the fault of the first turn without a place
 pub no_place : (places i n : ℕ) (ts : List Turn) → i < length ts → i ≡ places → ◌≡◌ {A = Result ℕ PlayerFault} (Err (Results Full i)) (told (places_answer places ts) n)
 no_place places i n ts h e =
     ap (λ (k : ℕ). Err (Results Full k)) e
     ∙ ap (λ (r : Result (Unit {0}) PlayerFault). told r n) (sym (cond-true _ _ _ (lt-ltb places (length ts) (omega arith))))
-
-pub all-places : (places n m : ℕ) (ts : List Turn) → length ts ≤ places → m ≡ n → ◌≡◌ {A = Result ℕ PlayerFault} (Ok m) (told (places_answer places ts) n)
-all-places places n m ts h e =
-    ap (λ (k : ℕ). Ok k) e
-    ∙ ap (λ (r : Result (Unit {0}) PlayerFault). told r n) (sym (cond-false _ _ _ (le-ltb places (length ts) h)))
-
--- the script of a text that is refused, and of one that is read
-pub script-refused : (free places : ℕ) (text : List ℕ) (r : Result (Unit {0}) TextFault) (e : TextFault) → r ≡ (text_read free text).answer → r ≡ Err e
-    → text_script free places text ≡ record { read = (text_read free text).turns; played = []; answer = Err (Text e) }
-script-refused free places text r e is was = ap (read_script places (text_read free text).turns) (sym is ∙ was)
-
-pub script-read : (free places : ℕ) (text : List ℕ) (r : Result (Unit {0}) TextFault) (u : Unit {0}) → r ≡ (text_read free text).answer → r ≡ Ok u
-    → text_script free places text
-    ≡ record { read = (text_read free text).turns; played = take places (text_read free text).turns; answer = places_answer places (text_read free text).turns }
-script-read free places text r u is was = ap (read_script places (text_read free text).turns) (sym is ∙ was)
-
-drop-front : {X : Type 0} (xs ys : List X) → drop (length xs) (xs ++ ys) ≡ ys
-drop-front [] ys = refl
-drop-front (x ∷ xs) ys = drop-front xs ys
-
--- what a list has gained, taken as the rest of its elements
-pub rest-gained : {X : Type 0} (xs ys zs : List X) (n : ℕ) → zs ≡ xs ++ ys → n ≡ length xs → take (length zs - n) (drop n zs) ≡ ys
-rest-gained {X = X} xs ys zs n zs-is n-is = take_rest zs n ∙ (ap (λ (k : ℕ). drop k zs) n-is ∙ (ap (drop (length xs)) zs-is ∙ drop-front xs ys))
-
-pub before-rest : {X : Type 0} (xs ys zs us : List X) (n : ℕ) → us ≡ zs → zs ≡ xs ++ ys → n ≡ length xs → n ≤ length us
-before-rest xs ys zs us n us-is zs-is n-is =
-    let size : length us ≡ length xs + length ys = ap length (us-is ∙ zs-is) ∙ length-append xs ys in
-    omega (arith, size, n-is)
 
 leads-all : (s : Plain) (ts : List Turn) → Leads s (paired ts (answers_of s ts)) (state_after_all s ts)
 leads-all s [] = refl
@@ -99,7 +71,7 @@ leads-all s (t ∷ ts) = (refl, leads-all (state_after s t) ts)
 pub gained-reads-on : (s t : Plain) (ts : List Turn) (xs₀ xs : List (Result ℕ Refusal)) → xs ≡ xs₀ ++ answers_of s ts → t ≡ state_after_all s ts
     → ReadsOn s (paired ts (drop (length xs₀) xs)) t
 gained-reads-on s t ts xs₀ xs xs-is t-is =
-    let new : drop (length xs₀) xs ≡ answers_of s ts = ap (drop (length xs₀)) xs-is ∙ drop-front xs₀ (answers_of s ts) in
+    let new : drop (length xs₀) xs ≡ answers_of s ts = ap (drop (length xs₀)) xs-is ∙ drop-append_seam xs₀ (answers_of s ts) in
     reads_on s (paired ts (drop (length xs₀) xs)) t
     (subst (λ (x : List (Result ℕ Refusal)). Leads s (paired ts x) t) (sym new)
     (subst (Leads s (paired ts (answers_of s ts))) (sym t-is) (leads-all s ts)))

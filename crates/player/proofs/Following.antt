@@ -1,15 +1,19 @@
 -- What follows a part of a line.
-use Rattle.std.proofs.Common.{◌≡◌, ℕ, suc, ◌+◌, ◌-◌, ◌<◌, Bool, true, false, cond, ◌||◌, eqb, List, [], ◌∷◌, ◌++◌, length, take, set, Some, None, Ok, Err, Option, Result, sym, refl, ap, ◌∙◌, subst, arith, MatchResult}
-use Rattle.std.proofs.lemmas.List.{append_assoc, take_more_set}
+use Rattle.std.proofs.Common.{◌≡◌, ℕ, suc, ◌+◌, ◌<◌, Bool, true, false, cond, ◌||◌, eqb, List, [], ◌∷◌, take, Some, None, Ok, Err, Option, Result, sym, refl, ap, ◌∙◌, subst, arith, MatchResult}
+use Rattle.std.specs.Option.{option_map}
 use Rattle.player.specs.declared.fault.TextWhy.{TextWhy}
 use Rattle.player.specs.declared.fault.TextWhy.TheVariants.{Field}
+use Rattle.player.specs.declared.token.Placed.{Placed}
 use Rattle.player.specs.declared.token.Token.{Token}
 use Rattle.player.specs.declared.token.Token.TheVariants.{Verb, Number, LineEnd}
+use Rattle.player.specs.declared.verb.Verb.{Verb as TurnVerb}
+use Rattle.player.specs.declared.verb.Verb.TheVariants as verb
 use Rattle.player.specs.Fields.{field_of}
-use Rattle.player.specs.Left.{before, after, further, parts_left, FieldTaken, NoField, fields_before, end_answer}
-use Rattle.player.specs.Lines.{fields_of, field_before}
+use Rattle.player.specs.Left.{before, after, further, parts_left, FieldTaken, NoField, NoTurn, end_answer}
+use Rattle.player.specs.Lines.{fields_of, field_before, turn_of_fields}
 use Rattle.player.specs.Splits.{line_end, space, split, begun}
-use Rattle.player.specs.Tokens.{Word, word_seen, number, end, PlacedWord, part_length, part, after_part, next_token, after_next}
+use Rattle.player.specs.Tokens.{Word, word_seen, words_seen, number, end, PlacedWord, part_length, part, after_part, next_token, after_next}
+use Rattle.player.specs.Verbs.{field_count}
 
 pub split-first : (sep : ℕ) (s : List ℕ) → split sep s ≡ before sep s ∷ further sep (after sep s)
 split-first sep [] = refl
@@ -99,7 +103,12 @@ field-taken at at' s word left w r none is w-is left_is r-is = go r r-is
 
     go : (q : Result ℕ TextWhy) → q ≡ field_of word → MatchResult q (FieldTaken s left) (NoField s)
     go (Ok n) q-is = record { part = word; parts = taken.0; number = sym q-is; line = taken.1; between = taken.2 }
-    go (Err e) q-is = λ n. ap (fields_of (suc n)) taken.0 ∙ ap (λ (f : Result ℕ TextWhy). field_before f (fields_of n (parts_left left))) (sym q-is)
+    go (Err e) q-is = record { refused = λ n. ap (fields_of (suc n)) taken.0 ∙ ap (λ (f : Result ℕ TextWhy). field_before f (fields_of n (parts_left left))) (sym q-is) }
+
+-- the token that was next, if its place is left out
+pub token-seen : (r : Option Placed) (t : Token) → option_map (λ (p : Placed). p.token) r ≡ Some t → (at : ℕ) × (words_seen r ≡ Some (record { word = word_seen t; at = at }))
+token-seen None t is = let z : ◌≡◌ {A = ℕ} 0 1 = cc in absurd (omega arith)
+token-seen (Some p) t is = let same : p.token ≡ t = cc in (p.at, ap (λ (u : Token). Some (record { word = word_seen u; at = p.at })) same)
 
 -- a part in place of a line end
 not-end-seen : (t : Token) → (t ≡ LineEnd → ⊥) → word_seen t ≡ end → ⊥
@@ -117,23 +126,35 @@ end-missing at at' (b ∷ bs) t none not_end is = go (eqb b line_end) refl (ap w
     go true is-end same = absurd (not-end-seen t not_end same)
     go false other same = sym (ap (λ (ps : List (List ℕ)). end_answer ps (after line_end (b ∷ bs))) (parts-after-space b bs other (between-space b bs none other)))
 
--- one field more
-before-push : (fs : List ℕ) (v : ℕ) (r : Result (List ℕ) TextWhy) → fields_before fs (field_before (Ok v) r) ≡ fields_before (fs ++ v ∷ []) r
-before-push fs v (Ok gs) = ap (λ (l : List ℕ). Ok l) (sym (append_assoc fs (v ∷ []) gs))
-before-push fs v (Err e) = refl
+-- what the fields from a place on give, where the first of them is read
+field-read : (n : ℕ) (s t : List ℕ) (f : ℕ) → FieldTaken s t f → fields_of (suc n) (parts_left s) ≡ field_before (Ok f) (fields_of n (parts_left t))
+field-read n s t f taken = ap (fields_of (suc n)) taken.parts ∙ ap (λ (r : Result ℕ TextWhy). field_before r (fields_of n (parts_left t))) taken.number
 
-pub fields-step : (n k v : ℕ) (fs s left : List ℕ) (all : Result (List ℕ) TextWhy) → k < n → k < length fs → all ≡ fields_before (take k fs) (fields_of (n - k) (parts_left s))
-    → FieldTaken s left v → all ≡ fields_before (take (k + 1) (set fs k v)) (fields_of (n - (k + 1)) (parts_left left))
-fields-step n k v fs s left all less inside so_far taken =
-    let count : n - k ≡ suc (n - (k + 1)) = omega arith in
-    let rest = fields_of (n - (k + 1)) (parts_left left) in
-    let here : fields_of (n - k) (parts_left s) ≡ field_before (Ok v) rest =
-    ap (λ (m : ℕ). fields_of m (parts_left s)) count ∙ (ap (fields_of (suc (n - (k + 1)))) taken.parts ∙ ap (λ (f : Result ℕ TextWhy). field_before f rest) taken.number) in
-    so_far
-    ∙ (ap (fields_before (take k fs)) here
-    ∙ (before-push (take k fs) v rest ∙ ap (λ (l : List ℕ). fields_before l rest) (sym (take_more_set fs k v inside))))
+-- a verb whose first, second or third field is refused has no turn
+pub first_refused : (v : TurnVerb) (s : List ℕ) (e : TextWhy) → NoField s e → NoTurn v s e
+first_refused v s e none = record { refused = go v }
+  where
+    go : (u : TurnVerb) → turn_of_fields u (fields_of (field_count u) (parts_left s)) ≡ Err e
+    go verb.Start = ap (turn_of_fields verb.Start) (none.refused 0)
+    go verb.Load = ap (turn_of_fields verb.Load) (none.refused 1)
+    go verb.Store = ap (turn_of_fields verb.Store) (none.refused 2)
+    go verb.Squash = ap (turn_of_fields verb.Squash) (none.refused 0)
+    go verb.Commit = ap (turn_of_fields verb.Commit) (none.refused 0)
+    go verb.Replace = ap (turn_of_fields verb.Replace) (none.refused 1)
 
-pub fields-fail : (n k : ℕ) (fs s : List ℕ) (all : Result (List ℕ) TextWhy) (e : TextWhy) → k < n → all ≡ fields_before fs (fields_of (n - k) (parts_left s)) → NoField s e → all ≡ Err e
-fields-fail n k fs s all e less so_far refused =
-    let count : n - k ≡ suc (n - (k + 1)) = omega arith in
-    so_far ∙ ap (fields_before fs) (ap (λ (m : ℕ). fields_of m (parts_left s)) count ∙ refused (n - (k + 1)))
+pub second_refused : (v : TurnVerb) (s t : List ℕ) (f : ℕ) (e : TextWhy) → 1 < field_count v → FieldTaken s t f → NoField t e → NoTurn v s e
+second_refused v s t f e more taken none = record { refused = go v more }
+  where
+    go : (u : TurnVerb) → 1 < field_count u → turn_of_fields u (fields_of (field_count u) (parts_left s)) ≡ Err e
+    go verb.Start h = absurd (omega arith)
+    go verb.Load h = ap (turn_of_fields verb.Load) (field-read 1 s t f taken ∙ ap (field_before (Ok f)) (none.refused 0))
+    go verb.Store h = ap (turn_of_fields verb.Store) (field-read 2 s t f taken ∙ ap (field_before (Ok f)) (none.refused 1))
+    go verb.Squash h = absurd (omega arith)
+    go verb.Commit h = absurd (omega arith)
+    go verb.Replace h = ap (turn_of_fields verb.Replace) (field-read 1 s t f taken ∙ ap (field_before (Ok f)) (none.refused 0))
+
+pub third_refused : (s t u : List ℕ) (f g : ℕ) (e : TextWhy) → FieldTaken s t f → FieldTaken t u g → NoField u e → NoTurn verb.Store s e
+third_refused s t u f g e first second none = record {
+  refused = ap (turn_of_fields verb.Store)
+      (field-read 2 s t f first ∙ (ap (field_before (Ok f)) (field-read 1 t u g second) ∙ ap (λ (r : Result (List ℕ) TextWhy). field_before (Ok f) (field_before (Ok g) r)) (none.refused 0)));
+}

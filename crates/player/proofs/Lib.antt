@@ -1,4 +1,3 @@
-pub mod Pushing
 pub mod Numbers
 pub mod Checking
 pub mod Laying

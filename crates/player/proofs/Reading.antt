@@ -3,13 +3,12 @@ use Rattle.std.proofs.Common.{◌≡◌, ℕ, ◌+◌, ◌-◌, ◌<◌, ◌≤�
 use Rattle.std.proofs.lemmas.List.{append-nil, append_assoc, length_push}
 use Rattle.std.proofs.lemmas.Bool.{cond-true, cond-false, leb-true, leb-false, le-ltb, lt-ltb}
 use Rattle.versions.specs.declared.turn.Turn.{Turn}
-use Rattle.player.specs.declared.fault.ListFault.{ListFault}
 use Rattle.player.specs.declared.fault.ListFault.TheVariants.{Full}
 use Rattle.player.specs.declared.fault.TextWhy.{TextWhy}
 use Rattle.player.specs.declared.fault.TextWhy.TheVariants as why
 use Rattle.player.specs.Left.{before, after, further, parts_left, line_answer, line_turn, listed_answer, listed, listed_row}
 use Rattle.player.specs.Lines.{turn_of, turn_of_parts, turn_of_verb, unfinished}
-use Rattle.player.specs.Lists.{is_full, push_answer}
+use Rattle.player.specs.Lists.{is_full}
 use Rattle.player.specs.Splits.{line_end, space, split, begun}
 use Rattle.player.specs.Text.{Reading, refused_at, turn_before, line_read, lines_read, written}
 use Rattle.player.specs.Tokens.{Word, verb, PlacedWord, part, after_part, verb_token}
@@ -87,22 +86,6 @@ line-accepted at next free s left t some is rest place =
 
     there : (at + length (before line_end s)) + 1 ≡ next
     there = omega (arith, after-length line_end s left rest)
-
--- adding a line's turn t to a list of xs, where there may be n
-module _ (t : Turn) (r : Result Turn TextWhy) (xs : List Turn) (n : ℕ) (is : Ok t ≡ r) where
-  pub listed-taken : Ok tt ≡ push_answer xs n → Ok tt ≡ listed_answer r xs n
-  listed-taken took = go (is_full xs n) took ∙ ap (λ (q : Result Turn TextWhy). listed_answer q xs n) is
-    where
-      go : (b : Bool) → ◌≡◌ {A = Result (Unit {0}) ListFault} (Ok tt) (cond b (Err Full) (Ok tt)) → ◌≡◌ {A = Result (Unit {0}) TextWhy} (Ok tt) (cond b (Err (why.List Full)) (Ok tt))
-      go true q = let z : ◌≡◌ {A = ℕ} 0 1 = cc in absurd (omega arith)
-      go false q = refl
-
-  pub listed-full : (f : ListFault) → Err f ≡ push_answer xs n → Err (why.List f) ≡ listed_answer r xs n
-  listed-full f refused = go (is_full xs n) refused ∙ ap (λ (q : Result Turn TextWhy). listed_answer q xs n) is
-    where
-      go : (b : Bool) → ◌≡◌ {A = Result (Unit {0}) ListFault} (Err f) (cond b (Err Full) (Ok tt)) → ◌≡◌ {A = Result (Unit {0}) TextWhy} (Err (why.List f)) (cond b (Err (why.List Full)) (Ok tt))
-      go true q = let same : f ≡ Full = cc in ap (λ (g : ListFault). Err (why.List g)) same
-      go false q = let z : ◌≡◌ {A = ℕ} 0 1 = cc in absurd (omega arith)
 
 -- the elements xs and the row of a list and what is still to be read, against those at the beginning
 pub record Begun (xs₀ row₀ : List Turn) (all : Reading) (xs row : List Turn) (left : Reading) : Type 0 where
@@ -203,9 +186,3 @@ line-goes-on at next n s left xs₀ row₀ xs row xs' row' all (Ok t) some is to
           turns = ap (λ (l : List Turn). l ++ more.turns) pushed-is ∙ (append_assoc xs (t ∷ []) more.turns ∙ begun.turns);
           rows = ap (λ (l : List Turn). written l (length xs') more.turns) put_is ∙ (ap (λ (k : ℕ). written (set row (length xs) t) k more.turns) long ∙ begun.rows);
         }
-
--- at the end of the text all is in the list
-pub text-ends : (at free : ℕ) (s : List ℕ) (xs₀ row₀ xs row : List Turn) (all : Reading) → None ≡ verb_token at s → Begun xs₀ row₀ all xs row (lines_read at free (split line_end s))
-    → (Ok tt ≡ all.answer) × (xs ≡ xs₀ ++ all.turns) × (row ≡ written row₀ (length xs₀) all.turns)
-text-ends at free [] xs₀ row₀ xs row all none so_far = (so_far.answer, sym (append-nil xs) ∙ so_far.turns, so_far.rows)
-text-ends at free (b ∷ bs) xs₀ row₀ xs row all none so_far = let z : ◌≡◌ {A = ℕ} 0 1 = cc in absurd (omega arith)

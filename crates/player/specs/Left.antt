@@ -1,9 +1,10 @@
 -- What is left of a line from a place in it, and what is done with it.
-use Rattle.std.specs.Prelude.{◌≡◌, ℕ, suc, cond, List, [], ◌∷◌, ◌++◌, length, take, Some, None, Ok, Err, Option, Result, ◌==◌, slice_set}
+use Rattle.std.specs.Prelude.{◌≡◌, ℕ, suc, cond, List, [], ◌∷◌, length, Some, None, Ok, Err, Option, Result, ◌==◌, slice_set}
 use Rattle.versions.specs.declared.turn.Turn.{Turn}
 use Rattle.player.specs.declared.fault.ListFault.TheVariants.{Full}
 use Rattle.player.specs.declared.fault.TextWhy.{TextWhy}
 use Rattle.player.specs.declared.fault.TextWhy.TheVariants as why
+use Rattle.player.specs.declared.verb.Verb.{Verb}
 use Rattle.player.specs.Splits.{split, space, line_end}
 use Rattle.player.specs.Fields.{field_of}
 use Rattle.player.specs.Lines.{fields_of, turn_of_verb, unfinished}
@@ -43,22 +44,23 @@ pub record FieldTaken (text rest : List ℕ) (n : ℕ) : Type 0 where
   pub between : part_length rest ≡ 0
 
 -- no part was left, or no number in the first, so that one field or more are refused
-abbrev pub NoField : List ℕ → TextWhy → Type 0
-NoField text e = (n : ℕ) → fields_of (suc n) (parts_left text) ≡ Err e
+pub record NoField (text : List ℕ) (e : TextWhy) : Type 0 where
+  pub refused : (n : ℕ) → fields_of (suc n) (parts_left text) ≡ Err e
 
--- numbers before others
-abbrev pub fields_before : List ℕ → Result (List ℕ) TextWhy → Result (List ℕ) TextWhy
-fields_before fs (Err e) = Err e
-fields_before fs (Ok gs) = Ok (fs ++ gs)
+-- the turn t, where no part may be left
+abbrev pub turn_at_end : Turn → List (List ℕ) → Result Turn TextWhy
+turn_at_end t [] = Ok t
+turn_at_end t (p ∷ ps) = Err why.Field
 
--- n parts that were left were read as the first n of fs, and the others are left
-pub record FieldsTaken (n : ℕ) (text rest fs : List ℕ) : Type 0 where
-  pub fields : fields_of n (parts_left text) ≡ fields_before (take n fs) (fields_of 0 (parts_left rest))
+-- t is the turn of a verb with the first parts that were left as its fields, and the others are left
+pub record TurnTaken (v : Verb) (text rest : List ℕ) (t : Turn) : Type 0 where
+  pub turn : turn_of_verb (Some v) (parts_left text) ≡ turn_at_end t (parts_left rest)
   pub line : after line_end rest ≡ after line_end text
   pub between : part_length rest ≡ 0
 
-abbrev pub NoFields : ℕ → List ℕ → TextWhy → Type 0
-NoFields n text e = fields_of n (parts_left text) ≡ Err e
+-- a verb's fields are not all left, or one of them is no number
+pub record NoTurn (v : Verb) (text : List ℕ) (e : TextWhy) : Type 0 where
+  pub refused : turn_of_verb (Some v) (parts_left text) ≡ Err e
 
 -- the end of a line, where these parts are left and this comes after the line, if it ends
 abbrev pub end_answer : List (List ℕ) → Option (List ℕ) → Result (Unit {0}) TextWhy

@@ -1,4 +1,5 @@
 pub mod Faults
+pub mod Capacity
 pub mod Lists
 pub mod Image
 pub mod Splits

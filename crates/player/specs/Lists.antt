@@ -1,12 +1,9 @@
 -- A list in a lent row: the elements at the row's beginning. What follows them in the row is not part of the list.
-use Rattle.std.specs.Prelude.{ℕ, ◌-◌, ◌≤◌, min, Bool, cond, List, [], ◌∷◌, ◌++◌, length, take, Ok, Err, Result, nat_le, slice_set}
+use Rattle.std.specs.Prelude.{ℕ, ◌-◌, Bool, cond, List, [], ◌∷◌, ◌++◌, length, take, Ok, Err, Result, nat_le, slice_set}
 use Rattle.player.specs.declared.fault.ListFault.{ListFault}
 use Rattle.player.specs.declared.fault.ListFault.TheVariants.{Full}
 use Rattle.player.specs.declared.list.RowList.{RowList}
-
--- how many elements a list over this row takes
-abbrev pub capacity : {T : Type 0} → List T → ℕ
-capacity row = min (length row) 65535
+use Rattle.player.specs.Capacity.{capacity}
 
 -- the whole row, the elements, and how many there may be
 abbrev pub row_of : {T : Type 0} → RowList T → List T
@@ -17,10 +14,6 @@ content l = take l.len (row_of l)
 
 abbrev pub room : {T : Type 0} → RowList T → ℕ
 room l = capacity (row_of l)
-
--- a list has no more elements than it takes
-abbrev pub Within : {T : Type 0} → RowList T → Type 0
-Within l = l.len ≤ room l
 
 -- there may be no more elements than these, where there may be n
 abbrev pub is_full : {T : Type 0} → List T → ℕ → Bool

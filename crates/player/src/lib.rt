@@ -19,6 +19,6 @@ pub use image::load_image;
 pub use list::RowList;
 pub use loading::Loading;
 pub use output::listing;
-pub use play::{play_both, play_central, play_snooping, play_text};
+pub use play::{play_both, play_on, play_text};
 pub use text::read_turns;
 pub use write::{write_turn, write_turns};

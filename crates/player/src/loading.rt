@@ -1,16 +1,13 @@
 // A store that is being loaded: a memory that takes images, any number or none, and no turns. Opening moves it into a
 // version store, which takes turns and no images; closing that store hands the memory back.
 ghost use Rattle.std.specs.Prelude.{◌≡◌, ℕ, true, length, is_ok, slice_index};
-ghost use Rattle.buffer.specs.Buffers.{plain_in, SoundBuffer};
-ghost use Rattle.snooping.specs.Report.{quiet};
-ghost use Rattle.snooping.specs.Snooping.{plain_in as plain_snooped, SoundSnooping};
 ghost use Rattle.versions.specs.Plain.{opened};
 ghost use Rattle.player.specs.Image.{pairs_of, image_words, load_answer, loaded_words, HoldsPairs, OutsidePairs};
 
 use crate::fault::ImageFault;
 use crate::image::load_image;
 use memory::Memory;
-use stores::{CentralBuffer, SnoopingStore};
+use stores::VersionStore;
 
 pub struct Loading<M> {
     memory: M,
@@ -39,25 +36,15 @@ impl<M: Memory> Loading<M> {
         load_image(&mut self.memory, image)
     }
 
-    // Opens the central buffer over the memory as it is loaded. No task is active.
-    pub fn open_buffer(self) -> CentralBuffer<M>
+    // Opens a version store over the memory as it is loaded. No task is active.
+    pub fn open<S: VersionStore<Below = M>>(self) -> S
         requires { M.Memory.sound self.memory }
-        ensures plain { plain_in M.Memory.words result ≡ opened (M.Memory.words self.memory) }
-        ensures beside { M.Memory.spare result.memory ≡ M.Memory.spare self.memory }
-        ensures kept { SoundBuffer M.Memory.words M.Memory.sound result }
+        ensures plain { S.VersionStore.plain result ≡ opened (M.Memory.words self.memory) }
+        ensures opens { S.VersionStore.opens result }
+        ensures beside { S.VersionStore.spare result ≡ M.Memory.spare self.memory }
+        ensures kept { S.VersionStore.sound result }
     {
-        CentralBuffer::open(self.close())
-    }
-
-    // Opens the snooping store over the memory as it is loaded. No task is active, and the bus has nothing to report.
-    pub fn open_snooping(self) -> SnoopingStore<M>
-        requires { M.Memory.sound self.memory }
-        ensures plain { plain_snooped M.Memory.words result ≡ opened (M.Memory.words self.memory) }
-        ensures report { result.report ≡ quiet }
-        ensures beside { M.Memory.spare result.memory ≡ M.Memory.spare self.memory }
-        ensures kept { SoundSnooping M.Memory.words M.Memory.sound result }
-    {
-        SnoopingStore::open(self.close())
+        S::open(self.close())
     }
 
     // Gives the memory back, where no store is to be opened: after a refused image, say.

@@ -3,7 +3,7 @@ ghost use Rattle.std.specs.Prelude.{◌≡◌, length, take, drop};
 ghost use Rattle.versions.specs.Plain.{opened, active_tasks, answers_of, state_after_all};
 ghost use Rattle.versions.specs.Sequential.{ReadsOn, paired};
 ghost use Rattle.player.specs.Image.{loaded_words};
-ghost use Rattle.player.specs.Lists.{content, free, Within};
+ghost use Rattle.player.specs.Lists.{content, free};
 ghost use Rattle.player.specs.Scripts.{Gained, Performed, places_answer, script_in, text_script, told};
 
 use crate::fault::{ListFault, PlayerFault};
@@ -11,54 +11,29 @@ use crate::list::RowList;
 use crate::loading::Loading;
 use crate::text::read_turns;
 use memory::Memory;
-use stores::{Answer, Turn, VersionStore};
+use stores::{Answer, CentralBuffer, SnoopingStore, Turn, VersionStore};
 
-// Loads an image into a memory and plays a text of turns over it on the snooping store: image first, then the whole text, then
+// Loads an image into a memory and plays a text of turns over it on a version store S: image first, then the whole text, then
 // turn by turn. It gives the memory back, with the number of active tasks or the fault. A refused image changes nothing.
-pub fn play_snooping<M: Memory>(
-    memory: M,
+pub fn play_on<S: VersionStore>(
+    memory: S::Below,
     image: &[u8],
     text: &[u8],
     turns: &mut RowList<Turn>,
     answers: &mut RowList<Answer>,
-) -> (M, Result<u32, PlayerFault>)
-    requires sound { M.Memory.sound memory }
-    requires turns_within { Within turns.old }
-    requires answers_within { Within answers.old }
-    ensures performed { Performed (opened (loaded_words (M.Memory.words memory) image.now)) (script_in (M.Memory.words memory) image.now text.now turns.old answers.old) turns.old turns.new answers.old answers.new result.1 (M.Memory.words result.0) }
-    ensures within { Within turns.new × Within answers.new }
-    ensures beside { M.Memory.spare result.0 ≡ M.Memory.spare memory }
-    ensures kept { M.Memory.sound result.0 }
+) -> (S::Below, Result<u32, PlayerFault>)
+    requires { S.Below.Memory.sound memory }
+    ensures performed { Performed (opened (loaded_words (S.Below.Memory.words memory) image.now)) (script_in (S.Below.Memory.words memory) image.now text.now turns.old answers.old) turns.old turns.new answers.old answers.new result.1 (S.Below.Memory.words result.0) }
+    ensures beside { S.Below.Memory.spare result.0 ≡ S.Below.Memory.spare memory }
+    ensures kept { S.Below.Memory.sound result.0 }
 {
     let mut loading = Loading::new(memory);
     if let Err(fault) = loading.load(image) {
         return (loading.close(), Err(PlayerFault::Image(fault)));
     }
-    perform(loading.open_snooping(), text, turns, answers)
-}
-
-// Loads an image into a memory and plays a text of turns over it on the central buffer: image first, then the whole text, then
-// turn by turn. It gives the memory back, with the number of active tasks or the fault. A refused image changes nothing.
-pub fn play_central<M: Memory>(
-    memory: M,
-    image: &[u8],
-    text: &[u8],
-    turns: &mut RowList<Turn>,
-    answers: &mut RowList<Answer>,
-) -> (M, Result<u32, PlayerFault>)
-    requires sound { M.Memory.sound memory }
-    requires turns_within { Within turns.old }
-    requires answers_within { Within answers.old }
-    ensures performed { Performed (opened (loaded_words (M.Memory.words memory) image.now)) (script_in (M.Memory.words memory) image.now text.now turns.old answers.old) turns.old turns.new answers.old answers.new result.1 (M.Memory.words result.0) }
-    ensures within { Within turns.new × Within answers.new }
-    ensures beside { M.Memory.spare result.0 ≡ M.Memory.spare memory }
-    ensures kept { M.Memory.sound result.0 }
-{
-    let mut loading = Loading::new(memory);
-    if let Err(fault) = loading.load(image) {
-        return (loading.close(), Err(PlayerFault::Image(fault)));
-    }
-    perform(loading.open_buffer(), text, turns, answers)
+    let mut store = loading.open::<S>();
+    let outcome = play_text(&mut store, text, turns, answers);
+    (store.close(), outcome)
 }
 
 // Plays the same text after the same image on a snooping store over one memory and on a central buffer over another.
@@ -76,19 +51,14 @@ pub fn play_both<M: Memory, N: Memory>(
 ) -> ((M, Result<u32, PlayerFault>), (N, Result<u32, PlayerFault>))
     requires one_sound { M.Memory.sound one }
     requires other_sound { N.Memory.sound other }
-    requires turns_within { Within turns.old }
-    requires snooped_within { Within snooped.old }
-    requires again_within { Within again.old }
-    requires buffered_within { Within buffered.old }
     ensures one { Performed (opened (loaded_words (M.Memory.words one) image.now)) (script_in (M.Memory.words one) image.now text.now turns.old snooped.old) turns.old turns.new snooped.old snooped.new result.0.1 (M.Memory.words result.0.0) }
     ensures other { Performed (opened (loaded_words (N.Memory.words other) image.now)) (script_in (N.Memory.words other) image.now text.now again.old buffered.old) again.old again.new buffered.old buffered.new result.1.1 (N.Memory.words result.1.0) }
     ensures alike { M.Memory.words one ≡ N.Memory.words other → free turns.old ≡ free again.old → free snooped.old ≡ free buffered.old → content snooped.old ≡ content buffered.old → (result.0.1 ≡ result.1.1) × (content snooped.new ≡ content buffered.new) × (M.Memory.words result.0.0 ≡ N.Memory.words result.1.0) }
-    ensures within { (Within turns.new × Within snooped.new) × (Within again.new × Within buffered.new) }
     ensures beside { (M.Memory.spare result.0.0 ≡ M.Memory.spare one) × (N.Memory.spare result.1.0 ≡ N.Memory.spare other) }
     ensures kept { M.Memory.sound result.0.0 × N.Memory.sound result.1.0 }
 {
-    let snooping = play_snooping(one, image, text, turns, snooped);
-    let central = play_central(other, image, text, again, buffered);
+    let snooping = play_on::<SnoopingStore<M>>(one, image, text, turns, snooped);
+    let central = play_on::<CentralBuffer<N>>(other, image, text, again, buffered);
     (snooping, central)
 }
 
@@ -101,40 +71,18 @@ pub fn play_text<S: VersionStore>(
     turns: &mut RowList<Turn>,
     answers: &mut RowList<Answer>,
 ) -> Result<u32, PlayerFault>
-    requires sound { S.VersionStore.sound store.old }
-    requires turns_within { Within turns.old }
-    requires answers_within { Within answers.old }
+    requires { S.VersionStore.sound store.old }
     ensures answer { result ≡ told (text_script (free turns.old) (free answers.old) text.now).answer (active_tasks (S.VersionStore.plain store.new)) }
     ensures turns { Gained turns.old (text_script (free turns.old) (free answers.old) text.now).read turns.new }
     ensures answers { Gained answers.old (answers_of (S.VersionStore.plain store.old) (text_script (free turns.old) (free answers.old) text.now).played) answers.new }
     ensures after { S.VersionStore.plain store.new ≡ state_after_all (S.VersionStore.plain store.old) (text_script (free turns.old) (free answers.old) text.now).played }
     ensures sequential { ReadsOn (S.VersionStore.plain store.old) (paired (text_script (free turns.old) (free answers.old) text.now).played (drop (length (content answers.old)) (content answers.new))) (S.VersionStore.plain store.new) }
-    ensures within { Within turns.new × Within answers.new }
     ensures beside { S.VersionStore.spare store.new ≡ S.VersionStore.spare store.old }
     ensures kept { S.VersionStore.sound store.new }
 {
     let before = turns.len();
     read_turns(text, turns)?;
     play_each(store, &turns.items()[before..], answers)
-}
-
-// Plays a text on a store and closes it.
-fn perform<S: VersionStore>(
-    mut store: S,
-    text: &[u8],
-    turns: &mut RowList<Turn>,
-    answers: &mut RowList<Answer>,
-) -> (S::Below, Result<u32, PlayerFault>)
-    requires sound { S.VersionStore.sound store }
-    requires turns_within { Within turns.old }
-    requires answers_within { Within answers.old }
-    ensures performed { Performed (S.VersionStore.plain store) (text_script (free turns.old) (free answers.old) text.now) turns.old turns.new answers.old answers.new result.1 (S.Below.Memory.words result.0) }
-    ensures within { Within turns.new × Within answers.new }
-    ensures beside { S.Below.Memory.spare result.0 ≡ S.VersionStore.spare store }
-    ensures kept { S.Below.Memory.sound result.0 }
-{
-    let outcome = play_text(&mut store, text, turns, answers);
-    (store.close(), outcome)
 }
 
 // Plays turns one by one and adds each answer to a list, until there is no turn or no place left. It gives the number of
@@ -144,23 +92,21 @@ fn play_each<S: VersionStore>(
     turns: &[Turn],
     answers: &mut RowList<Answer>,
 ) -> Result<u32, PlayerFault>
-    requires sound { S.VersionStore.sound store.old }
-    requires answers_within { Within answers.old }
+    requires { S.VersionStore.sound store.old }
     ensures answer { result ≡ told (places_answer (free answers.old) turns.now) (active_tasks (S.VersionStore.plain store.new)) }
     ensures answers { Gained answers.old (answers_of (S.VersionStore.plain store.old) (take (free answers.old) turns.now)) answers.new }
     ensures after { S.VersionStore.plain store.new ≡ state_after_all (S.VersionStore.plain store.old) (take (free answers.old) turns.now) }
-    ensures within { Within answers.new }
     ensures beside { S.VersionStore.spare store.new ≡ S.VersionStore.spare store.old }
     ensures kept { S.VersionStore.sound store.new }
 {
-    for i in 0..turns.len() {
+    for (i, turn) in turns.iter().enumerate() {
         if answers.is_full() {
             return Err(PlayerFault::Results {
                 fault: ListFault::Full,
                 turn: i,
             });
         }
-        let _ = answers.push(store.take_turn(turns[i]));
+        let _ = answers.push(store.take_turn(*turn));
     }
     Ok(store.tasks())
 }

@@ -2,11 +2,11 @@
 // first, then field by field, then for extras and its end, and last for a place in the list.
 ghost use Rattle.std.specs.Prelude.{◌≡◌, ◌^◌, ◌<◌, ◌≤◌, ◌++◌, length, Some, MatchResult, OnOk};
 ghost use Rattle.player.specs.Canonical.{Exact};
-ghost use Rattle.player.specs.Left.{after, parts_left, FieldTaken, NoField, FieldsTaken, NoFields, end_answer, line_turn, listed_answer, listed, listed_row};
-ghost use Rattle.player.specs.Lists.{content, free, room, row_of, Within};
+ghost use Rattle.player.specs.Left.{after, parts_left, FieldTaken, NoField, TurnTaken, NoTurn, end_answer, line_turn, listed_answer, listed, listed_row};
+ghost use Rattle.player.specs.Lists.{content, free, room, row_of};
 ghost use Rattle.player.specs.Splits.{line_end};
 ghost use Rattle.player.specs.Text.{text_read, written};
-ghost use Rattle.player.specs.Tokens.{text_left, end_of, part_length, word_seen, verb_seen};
+ghost use Rattle.player.specs.Tokens.{text_left, end_of, part_length, word_seen};
 
 use crate::fault::{TextFault, TextWhy};
 use crate::list::RowList;
@@ -17,13 +17,11 @@ use stores::Turn;
 
 // Reads the turns of a text into a list. A fault leaves the turns of the lines before it in the list.
 pub fn read_turns(text: &[u8], turns: &mut RowList<Turn>) -> Result<(), TextFault>
-    requires { Within turns.old }
     ensures answer { result ≡ (text_read (free turns.old) text.now).answer }
     ensures after { content turns.new ≡ content turns.old ++ (text_read (free turns.old) text.now).turns }
     ensures row { row_of turns.new ≡ written (row_of turns.old) (length (content turns.old)) (text_read (free turns.old) text.now).turns }
     ensures exact { Exact text.now (text_read (free turns.old) text.now) }
     ensures room { room turns.new ≡ room turns.old }
-    ensures within { Within turns.new }
 {
     let mut tokens = Tokens::new(text);
     while let Some(first) = tokens.verb() {
@@ -42,28 +40,40 @@ fn read_field(tokens: &mut Tokens) -> Result<u32, TextWhy>
     ensures field { MatchResult result (FieldTaken (text_left tokens.old) (text_left tokens.new)) (NoField (text_left tokens.old)) }
     ensures place { end_of tokens.new ≡ end_of tokens.old }
 {
-    let Some(next) = tokens.next() else {
-        return Err(TextWhy::Field);
-    };
-    let Token::Number(part) = next.token else {
+    let Some(Token::Number(part)) = tokens.next().map(|placed| placed.token) else {
         return Err(TextWhy::Field);
     };
     number(part)
 }
 
-// Takes n fields of a line; those that the line does not have are 0.
-fn read_fields(tokens: &mut Tokens, n: usize) -> Result<[u32; 3], TextWhy>
-    requires n_bound { n ≤ 3 }
+// Takes the fields of a verb, and gives its turn.
+fn read_fields(verb: Verb, tokens: &mut Tokens) -> Result<Turn, TextWhy>
     requires place_fits { end_of tokens.old < 2 ^ 64 }
     requires between_parts { part_length (text_left tokens.old) ≡ 0 }
-    ensures fields { MatchResult result (FieldsTaken n (text_left tokens.old) (text_left tokens.new)) (NoFields n (text_left tokens.old)) }
+    ensures turn { MatchResult result (TurnTaken verb (text_left tokens.old) (text_left tokens.new)) (NoTurn verb (text_left tokens.old)) }
     ensures place { end_of tokens.new ≡ end_of tokens.old }
 {
-    let mut fields = [0; 3];
-    for k in 0..n {
-        fields[k] = read_field(tokens)?;
-    }
-    Ok(fields)
+    // Every turn's first field is its processor.
+    let p = read_field(tokens)?;
+    let turn = match verb {
+        Verb::Start => Turn::Start { p },
+        Verb::Load => Turn::Load {
+            p,
+            a: read_field(tokens)?,
+        },
+        Verb::Store => Turn::Store {
+            p,
+            a: read_field(tokens)?,
+            w: read_field(tokens)?,
+        },
+        Verb::Squash => Turn::Squash { p },
+        Verb::Commit => Turn::Commit { p },
+        Verb::Replace => Turn::Replace {
+            p,
+            a: read_field(tokens)?,
+        },
+    };
+    Ok(turn)
 }
 
 // Takes the end of a line, after which no part may be left.
@@ -74,24 +84,10 @@ fn read_end(tokens: &mut Tokens) -> Result<(), TextWhy>
     ensures line { OnOk result (after line_end (text_left tokens.old) ≡ Some (text_left tokens.new)) }
     ensures place { end_of tokens.new ≡ end_of tokens.old }
 {
-    let Some(last) = tokens.next() else {
-        return Err(TextWhy::Field);
-    };
-    let Token::LineEnd = last.token else {
+    let Some(Token::LineEnd) = tokens.next().map(|placed| placed.token) else {
         return Err(TextWhy::Field);
     };
     Ok(())
-}
-
-// The verb that a token names.
-fn verb_of(token: Token) -> Option<Verb>
-    ensures { result ≡ verb_seen (word_seen token.entry) }
-{
-    match token {
-        Token::Verb(word) => Verb::named(word),
-        Token::Number(_) => None,
-        Token::LineEnd => None,
-    }
 }
 
 // Takes what follows the first token of a line, and gives the line's turn.
@@ -102,24 +98,23 @@ fn read_turn(first: Token, tokens: &mut Tokens) -> Result<Turn, TextWhy>
     ensures line { OnOk result (after line_end (text_left tokens.old) ≡ Some (text_left tokens.new)) }
     ensures place { end_of tokens.new ≡ end_of tokens.old }
 {
-    let Some(verb) = verb_of(first) else {
+    let Token::Verb(word) = first else {
         return Err(TextWhy::Verb);
     };
-    let fields = read_fields(tokens, verb.field_count())?;
+    let verb = Verb::try_from(word)?;
+    let turn = read_fields(verb, tokens)?;
     read_end(tokens)?;
-    Ok(verb.turn(fields))
+    Ok(turn)
 }
 
 // Takes what follows the first token of a line, and adds the line's turn to the list.
 fn read_line(first: Token, tokens: &mut Tokens, turns: &mut RowList<Turn>) -> Result<(), TextWhy>
     requires place_fits { end_of tokens.old < 2 ^ 64 }
     requires between_parts { part_length (text_left tokens.old) ≡ 0 }
-    requires turns_within { Within turns.old }
     ensures answer { result ≡ listed_answer (line_turn (word_seen first.entry) (text_left tokens.old)) (content turns.old) (room turns.old) }
     ensures after { content turns.new ≡ listed (line_turn (word_seen first.entry) (text_left tokens.old)) (content turns.old) (room turns.old) }
     ensures row { row_of turns.new ≡ listed_row (line_turn (word_seen first.entry) (text_left tokens.old)) (content turns.old) (room turns.old) (row_of turns.old) }
     ensures room { room turns.new ≡ room turns.old }
-    ensures within { Within turns.new }
     ensures line { OnOk result (after line_end (text_left tokens.old) ≡ Some (text_left tokens.new)) }
     ensures place { end_of tokens.new ≡ end_of tokens.old }
 {

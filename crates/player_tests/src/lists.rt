@@ -7,8 +7,10 @@ use stores::{Answer, Refusal, Turn};
 fn a_list_adds_at_the_end_until_its_row_is_full(rt: HostRuntime) -> Result<(), Fail> {
     let mut row = [9u8; 2];
     let mut list = RowList::new(&mut row);
+    assert!(rt; list.is_empty());
     assert_eq!(rt; list.get(0), None);
     assert_eq!(rt; list.push(1), Ok(()));
+    assert!(rt; !list.is_empty());
     assert_eq!(rt; list.push(2), Ok(()));
     assert_eq!(rt; list.push(3), Err(ListFault::Full));
     assert_eq!(rt; list.len(), 2);

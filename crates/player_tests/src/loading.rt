@@ -2,7 +2,7 @@
 use memory::WordMemory;
 use player::{ImageFault, ImageWhy, Loading};
 use std::test::*;
-use stores::VersionStore;
+use stores::{CentralBuffer, VersionStore};
 
 #[test]
 fn images_come_one_after_another_and_then_the_turns(rt: HostRuntime) -> Result<(), Fail> {
@@ -12,7 +12,7 @@ fn images_come_one_after_another_and_then_the_turns(rt: HostRuntime) -> Result<(
     let first = loading.load(&[1, 0, 0, 0, 1, 0, 0, 0, 1, 0, 0, 0, 70, 0, 0, 0]);
     let bad = loading.load(&[1, 0, 0]);
     let second = loading.load(&[1, 0, 0, 0, 2, 0, 0, 0, 1, 0, 0, 0, 71, 0, 0, 0]);
-    let mut buffer = loading.open_buffer();
+    let mut buffer = loading.open::<CentralBuffer<WordMemory>>();
     let started = buffer.start(2);
     let loaded = buffer.load(2, 1);
     let stored = buffer.store(2, 3, 72);

@@ -1,54 +1,61 @@
 // Images and texts that are played on both stores, and their listings.
 use memory::WordMemory;
-use player::{RowList, listing, play_central, play_snooping};
+use player::{RowList, listing, play_on};
 use std::alloc::Global;
 use std::process::Abort;
 use std::test::*;
-use stores::{Answer, Turn};
+use stores::{Answer, CentralBuffer, SnoopingStore, Turn, VersionStore};
 
-// Plays over 64 zero words on the snooping store, with eight places for turns and those given for answers.
-fn snooped(
+// Plays on a store over these words, with eight places for turns and those given for answers.
+fn plays_on<'a, S: VersionStore<Below = WordMemory<'a>>>(
     rt: &impl Abort,
     alloc: Global,
+    words: &'a mut [u32],
     image: &[u8],
     text: &str,
     places: &mut [Answer],
     lines: &str,
 ) -> Result<(), Fail> {
-    let mut words = [0u32; 64];
     let mut row = [Turn::Start { p: 0 }; 8];
     let mut turns = RowList::new(&mut row);
     let mut answers = RowList::new(places);
-    assert!(rt; WordMemory::check(&words).is_ok());
-    let memory = WordMemory::open(&mut words);
-    let (memory, outcome) = play_snooping(memory, image, text.as_bytes(), &mut turns, &mut answers);
+    assert!(rt; WordMemory::check(words).is_ok());
+    let memory = WordMemory::open(words);
+    let (memory, outcome) = play_on::<S>(memory, image, text.as_bytes(), &mut turns, &mut answers);
     let told = listing(alloc, answers.items(), outcome, memory.close())?;
     assert_eq!(rt; told.as_str(), lines, "{}", text);
     Ok(())
 }
 
-// The same on the central buffer.
-fn buffered(
+// On both over 64 zero words, with so many places for answers.
+fn plays_in<const N: usize>(
     rt: &impl Abort,
     alloc: Global,
     image: &[u8],
     text: &str,
-    places: &mut [Answer],
     lines: &str,
 ) -> Result<(), Fail> {
-    let mut words = [0u32; 64];
-    let mut row = [Turn::Start { p: 0 }; 8];
-    let mut turns = RowList::new(&mut row);
-    let mut answers = RowList::new(places);
-    assert!(rt; WordMemory::check(&words).is_ok());
-    let memory = WordMemory::open(&mut words);
-    let (memory, outcome) = play_central(memory, image, text.as_bytes(), &mut turns, &mut answers);
-    let told = listing(alloc, answers.items(), outcome, memory.close())?;
-    assert_eq!(rt; told.as_str(), lines, "{}", text);
-    Ok(())
+    plays_on::<SnoopingStore<WordMemory>>(
+        rt,
+        alloc,
+        &mut [0; 64],
+        image,
+        text,
+        &mut [Ok(0); N],
+        lines,
+    )?;
+    plays_on::<CentralBuffer<WordMemory>>(
+        rt,
+        alloc,
+        &mut [0; 64],
+        image,
+        text,
+        &mut [Ok(0); N],
+        lines,
+    )
 }
 
-// On both, with as many places for answers as for turns.
+// The same with as many places for answers as for turns.
 fn plays(
     rt: &impl Abort,
     alloc: Global,
@@ -56,8 +63,7 @@ fn plays(
     text: &str,
     lines: &str,
 ) -> Result<(), Fail> {
-    snooped(rt, alloc, image, text, &mut [Ok(0); 8], lines)?;
-    buffered(rt, alloc, image, text, &mut [Ok(0); 8], lines)
+    plays_in::<8>(rt, alloc, image, text, lines)
 }
 
 #[test]
@@ -102,21 +108,11 @@ fn a_full_list_of_turns_is_told_at_its_line(rt: HostRuntime) -> Result<(), Fail>
 
 #[test]
 fn a_full_list_of_answers_is_told_at_its_turn(rt: HostRuntime) -> Result<(), Fail> {
-    let text = "start 0\nstart 1\nstart 2\n";
-    snooped(
+    plays_in::<2>(
         &rt,
         rt.alloc(),
         &[0; 4],
-        text,
-        &mut [Ok(0); 2],
-        "fault list 16 2\n",
-    )?;
-    buffered(
-        &rt,
-        rt.alloc(),
-        &[0; 4],
-        text,
-        &mut [Ok(0); 2],
+        "start 0\nstart 1\nstart 2\n",
         "fault list 16 2\n",
     )
 }

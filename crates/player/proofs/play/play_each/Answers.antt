@@ -1,13 +1,11 @@
 use Rattle.std.proofs.Common.{◌≡◌, ℕ, ◌+◌, ◌-◌, ◌<◌, ◌≤◌, true, List, ◌++◌, length, take, Result, sym, ap, ◌∙◌, subst, arith}
-use Rattle.std.proofs.lemmas.List.{take_all}
 use Rattle.versions.specs.declared.refusal.Refusal.{Refusal}
-use Rattle.versions.specs.declared.turn.Turn.{Turn}
 use Rattle.versions.specs.declared.turn.Turn.TheVariants.{Start}
 use Rattle.versions.specs.Plain.{active_tasks, answers_of, state_after_all}
 use Rattle.versions.proofs.Playing.{state-step}
 use Rattle.player.specs.Lists.{content, free, room, row_of, is_full}
 use Rattle.player.specs.Text.{written}
-use Rattle.player.proofs.Adding.{answers-more, one-added, all-added, length-played, no_place, all-places}
+use Rattle.player.proofs.Adding.{answers-more, one-added, all-added, length-played, no_place}
 use Rattle.player.proofs.play.play_each.Goals as goal
 
 pub loop-i-preserved : goal.loop-i-preserved
@@ -31,8 +29,7 @@ loop-i-preserved g c =
         c.push.ensures.room ∙ inv.2.2,
       ),
       subst (λ (k : ℕ). i + 1 ≤ k - length (content l₀)) inv.2.2 a.2,
-      c.push.ensures.within,
-      c.take_turn.ensures.beside ∙ inv.5,
+      c.take_turn.ensures.beside ∙ inv.4,
     )
 
 pub returns-then-is_full : goal.returns-then-is_full
@@ -54,30 +51,6 @@ returns-then-is_full g c =
         inv.2.2,
       );
       after = inv.1 ∙ ap (λ (k : ℕ). state_after_all s (take k ts)) all;
-      within = inv.4;
-      beside = inv.5;
-      kept = inv.0;
-    }
-
-pub returns : goal.returns
-returns g c =
-    let m = g.S.VersionStore in
-    let s = m.plain c.args.store.now in
-    let ts = c.args.turns.now in
-    let i = c.loop-i.i in
-    let l₀ = c.args.answers.now in
-    let inv = c.loop-i.invariant in
-    let bound : i ≤ free l₀ = inv.3 in
-    let all : take i ts ≡ take (free l₀) ts = take_all i ts (omega arith) ∙ sym (take_all (free l₀) ts (omega (arith, bound))) in
-    record {
-      answer = all-places (free l₀) (active_tasks (m.plain c.loop-i.store)) c.tasks.result ts (omega (arith, bound)) c.tasks.ensures;
-      answers = (
-        inv.2.0 ∙ ap (λ (x : List Turn). content l₀ ++ answers_of s x) all,
-        inv.2.1 ∙ ap (λ (x : List Turn). written (row_of l₀) (length (content l₀)) (answers_of s x)) all,
-        inv.2.2,
-      );
-      after = inv.1 ∙ ap (λ (x : List Turn). state_after_all s x) all;
-      within = inv.4;
-      beside = inv.5;
+      beside = inv.4;
       kept = inv.0;
     }

@@ -1,6 +1,6 @@
 use Rattle.std.proofs.Common.{◌≡◌, ◌≤◌, take}
 use Rattle.versions.specs.Plain.{answers_of, state_after_all}
-use Rattle.player.specs.Lists.{free, Within}
+use Rattle.player.specs.Lists.{free}
 use Rattle.player.specs.Scripts.{Gained}
 use Rattle.player.proofs.play.play_each.Given as goal
 
@@ -12,5 +12,4 @@ invariant-loop-i g l =
     × (m.plain l.store ≡ state_after_all (m.plain l.initial.store) (take l.i l.turns))
     × Gained l.initial.answers (answers_of (m.plain l.initial.store) (take l.i l.turns)) l.answers
     × (l.i ≤ free l.initial.answers)
-    × Within l.answers
     × (m.spare l.store ≡ m.spare l.initial.store)

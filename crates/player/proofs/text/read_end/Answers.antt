@@ -1,11 +1,18 @@
-use Rattle.player.proofs.Following.{end-missing}
+use Rattle.std.proofs.Common.{◌≡◌, rules, sym, ◌∙◌}
+use Rattle.std.specs.Option.{option_map}
+use Rattle.player.specs.declared.token.Placed.{Placed}
+use Rattle.player.specs.declared.token.Token.TheVariants.{LineEnd}
+use Rattle.player.proofs.Following.{token-seen, end-missing}
 use Rattle.player.proofs.text.read_end.Goals as goal
 
-pub returns-in_default-token : goal.returns-in_default-token
-returns-in_default-token c =
-    let t = c.in-Some.last in
+pub returns-in_default : goal.returns-in_default
+returns-in_default c =
+    let token = c.in_default.field-0 in
+    let same : option_map (λ (p : Placed). p.token) c.next.result ≡ c.map.result = search rules in
+    let other : token ≡ LineEnd → ⊥ = search rules in
+    let seen = token-seen c.next.result token (same ∙ c.in_default.is) in
     record {
-      end = end-missing c.args.tokens.now.at t.at c.args.tokens.now.rest.now t.token c.requires.between_parts c.in_default-token.not-LineEnd c.in-Some.ensures.token;
+      end = end-missing c.args.tokens.now.at seen.0 c.args.tokens.now.rest.now token c.requires.between_parts other (sym seen.1 ∙ c.next.ensures.token);
       line = tt;
       place = c.next.ensures.place;
     }

@@ -6,17 +6,11 @@ use Rattle.player.specs.Text.{lines_read, text_read}
 use Rattle.player.specs.Tokens.{word_seen, part_length}
 use Rattle.player.proofs.Exact.{text-exact}
 use Rattle.player.proofs.Following.{after-part}
-use Rattle.player.proofs.Reading.{Begun, after-length, verb-taken, line-turn, line-stops, line-goes-on, text-ends}
+use Rattle.player.proofs.Reading.{Begun, after-length, verb-taken, line-turn, line-stops, line-goes-on}
 use Rattle.player.proofs.text.read_turns.Goals as goal
 
-pub read_line-requires : goal.read_line-requires
-read_line-requires c =
-    let e = c.in-Some.ensures in
-    record {
-      place_fits = omega (arith, e.place, c.loop-first.invariant.3);
-      between_parts = ap part_length e.text ∙ (after-part c.loop-first.tokens.rest.now).2;
-      turns_within = c.loop-first.invariant.2;
-    }
+pub read_line-requires-clause-between_parts : goal.read_line-requires-clause-between_parts
+read_line-requires-clause-between_parts c = ap part_length c.in-Some.ensures.text ∙ (after-part c.loop-first.tokens.rest.now).2
 
 pub returns-in-Err : goal.returns-in-Err
 returns-in-Err c =
@@ -38,7 +32,6 @@ returns-in-Err c =
       row = d.rows;
       exact = text-exact (free l₀) c.args.text.now;
       room = f.room ∙ c.loop-first.invariant.1;
-      within = f.within;
     }
 
 pub loop-first-smaller : goal.loop-first-smaller
@@ -70,22 +63,8 @@ loop-first-preserved c =
     f.answer f.after f.row rest place c.loop-first.invariant.0 in (
       subst (λ (k : ℕ). Begun (content l₀) (row_of l₀) all (content l') (row_of l') (lines_read t'.at (k - length (content l')) (split line_end t'.rest.now))) (sym f.room) d,
       f.room ∙ c.loop-first.invariant.1,
-      f.within,
-      place ∙ c.loop-first.invariant.3,
+      place ∙ c.loop-first.invariant.2,
     )
 
-pub returns : goal.returns
-returns c =
-    let s = c.loop-first.tokens.rest.now in
-    let l = c.loop-first.turns in
-    let l₀ = c.args.turns.now in
-    let d = text-ends c.loop-first.tokens.at (free l) s (content l₀) (row_of l₀) (content l) (row_of l) (text_read (free l₀) c.args.text.now)
-    c.in_default.ensures.token c.loop-first.invariant.0 in
-    record {
-      answer = d.0;
-      after = d.1;
-      row = d.2;
-      exact = text-exact (free l₀) c.args.text.now;
-      room = c.loop-first.invariant.1;
-      within = c.loop-first.invariant.2;
-    }
+pub returns-clause-exact : goal.returns-clause-exact
+returns-clause-exact c = text-exact (free c.args.turns.now) c.args.text.now

@@ -1,5 +1,5 @@
 use Rattle.std.proofs.Common.{◌≡◌, length}
-use Rattle.player.specs.Lists.{free, content, room, row_of, Within}
+use Rattle.player.specs.Lists.{free, content, room, row_of}
 use Rattle.player.specs.Splits.{split, line_end}
 use Rattle.player.specs.Text.{lines_read, text_read}
 use Rattle.player.specs.Tokens.{text_left, place_of, end_of}
@@ -12,7 +12,6 @@ invariant-loop-first l =
     Begun (content l.initial.turns) (row_of l.initial.turns) (text_read (free l.initial.turns) l.text)
     (content l.turns) (row_of l.turns) (lines_read (place_of l.tokens) (free l.turns) (split line_end (text_left l.tokens)))
     × (room l.turns ≡ room l.initial.turns)
-    × Within l.turns
     × (end_of l.tokens ≡ length l.text)
 
 abbrev pub decreases-loop-first : goal.decreases-loop-first
