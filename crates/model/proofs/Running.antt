@@ -1,5 +1,5 @@
 -- Lists of commands, carried out one after another.
-use Rattle.std.proofs.Common.{◌≡◌, ℕ, suc, ◌+◌, ◌<◌, List, [], ◌∷◌, ◌++◌, length, get_or, take, drop, set, Some, None, Option, sym, refl, ap, ◌∙◌, arith}
+use Rattle.std.proofs.Common.{◌≡◌, ℕ, suc, ◌+◌, ◌<◌, List, [], ◌∷◌, ◌++◌, length, get_or, take, drop, set, Some, None, Option, Ok, Err, Result, sym, refl, ap, ◌∙◌, arith}
 use Rattle.std.proofs.lemmas.List.{append_assoc, take_more, drop_more, set_at, length-take-le}
 use Rattle.versions.specs.declared.refusal.Refusal.{Refusal}
 use Rattle.versions.specs.declared.turn.Turn.{Turn}
@@ -7,7 +7,8 @@ use Rattle.versions.specs.declared.turn.Turn.TheVariants.{Start, Load, Store, Sq
 use Rattle.versions.specs.Plain.{Plain, task_on, memory_words, refusal_of, moved, unless_refused, state_after}
 use Rattle.versions.proofs.Holding.{length-laid_over_all, length-written_to}
 use Rattle.model.specs.declared.command.Asked.{Asked}
-use Rattle.model.specs.declared.command.Asked.TheVariants.{Played, Word, Tasks, OneLine, Report, Unknown}
+use Rattle.model.specs.declared.command.Asked.TheVariants.{Played, Word, Tasks, OneLine, Report}
+use Rattle.model.specs.declared.command.UnknownCode.{UnknownCode}
 use Rattle.model.specs.declared.command.Command.{Command}
 use Rattle.model.specs.declared.command.Reply.{Reply}
 use Rattle.model.specs.Commands.{asked_of, nothing}
@@ -62,13 +63,13 @@ size-turn : (s : Plain) (t : Turn) → length (memory_words (state_after s t)) �
 unfolding state_after
 size-turn s t = size-unless (refusal_of s t) s (moved s t) (size-moved s t)
 
-size-asked : (m : Seen) (x : Asked) → length (memory_words (seen_after m x).plain) ≡ length (memory_words m.plain)
-size-asked m (Played t) = size-turn m.plain t
-size-asked m (Word a) = refl
-size-asked m Tasks = refl
-size-asked m (OneLine p c) = refl
-size-asked m Report = refl
-size-asked m Unknown = refl
+size-asked : (m : Seen) (x : Result Asked UnknownCode) → length (memory_words (seen_after m x).plain) ≡ length (memory_words m.plain)
+size-asked m (Ok (Played t)) = size-turn m.plain t
+size-asked m (Ok (Word a)) = refl
+size-asked m (Ok Tasks) = refl
+size-asked m (Ok (OneLine p c)) = refl
+size-asked m (Ok Report) = refl
+size-asked m (Err e) = refl
 
 pub size-stays : (m : Seen) (cs : List Command) → length (memory_words (seen_after_all m cs).plain) ≡ length (memory_words m.plain)
 size-stays m [] = refl
