@@ -9,5 +9,4 @@ mod run;
 
 pub use command::{Asked, Command, Reply, UnknownCode};
 pub use machine::Machine;
-pub use refusal::RunRefusal;
 pub use run::{model_central, model_snooping};

@@ -37,12 +37,15 @@ fn told(outcome: Result<(), RunRefusal>) -> u32
     }
 }
 
-// Carries the commands out in their order and writes each reply at its command's place.
+// Carries the commands out in their order and writes each reply at its command's place. (Over `replies.iter_mut().zip(commands)`
+// a proof would know nothing of what is written.)
+#[tactic(auto, using(crate::proofs::Running::size_stays))]
 fn carry_out_all<S: Machine>(store: &mut S, commands: &[Command], replies: &mut [Reply])
     requires sound { S.VersionStore.sound store.old }
     requires commands_in_bounds { length commands.now ≤ length replies.old }
     ensures replies { replies.new ≡ replies_to (seen_of S.VersionStore.plain S.Machine.bus store.old) commands.now ++ drop (length commands.now) replies.old }
     ensures after { seen_of S.VersionStore.plain S.Machine.bus store.new ≡ seen_after_all (seen_of S.VersionStore.plain S.Machine.bus store.old) commands.now }
+    ensures size { length (memory_words (S.VersionStore.plain store.new)) ≡ length (memory_words (S.VersionStore.plain store.old)) }
     ensures kept { S.VersionStore.sound store.new }
 {
     for (i, command) in commands.iter().enumerate() {
