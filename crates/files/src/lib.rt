@@ -49,7 +49,7 @@ fn fill<R: Read>(source: &mut R, buffer: &mut [u8]) -> io::Result<usize>
     ensures ends { IfOk result (λ n. n < length buffer.old → IsAtEnd (R.remaining source.new)) }
 {
     let mut len = 0;
-    for _ in 0..buffer.len() {
+    while len < buffer.len() {
         let n = source.read(&mut buffer[len..])?;
         if n == 0 {
             break;
