@@ -158,3 +158,6 @@ third_refused s t u f g e first second none = record {
   refused = ap (turn_of_fields verb.Store)
       (field-read 2 s t f first ∙ (ap (field_before (Ok f)) (field-read 1 t u g second) ∙ ap (λ (r : Result (List ℕ) TextWhy). field_before (Ok f) (field_before (Ok g) r)) (none.refused 0)));
 }
+
+-- that a field is refused
+pub ruleset refused_fields = (first_refused, second_refused, third_refused)

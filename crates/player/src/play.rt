@@ -106,7 +106,8 @@ fn play_each<S: VersionStore>(
                 turn: i,
             });
         }
-        let _ = answers.push(store.take_turn(*turn));
+        // There is a place, as was just tested.
+        answers.push(store.take_turn(*turn)).unwrap();
     }
     Ok(store.tasks())
 }

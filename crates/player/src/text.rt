@@ -47,6 +47,7 @@ fn read_field(tokens: &mut Tokens) -> Result<u32, TextWhy>
 }
 
 // Takes the fields of a verb, and gives its turn.
+#[tactic(auto, using(crate::proofs::Following::refused_fields))]
 fn read_fields(verb: Verb, tokens: &mut Tokens) -> Result<Turn, TextWhy>
     requires place_fits { end_of tokens.old < 2 ^ 64 }
     requires between_parts { part_length (text_left tokens.old) ≡ 0 }

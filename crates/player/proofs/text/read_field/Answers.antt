@@ -1,7 +1,7 @@
 use Rattle.std.proofs.Common.{◌≡◌, ap, rules, sym, ◌∙◌}
 use Rattle.std.specs.Option.{option_map}
 use Rattle.player.specs.declared.token.Placed.{Placed}
-use Rattle.player.specs.Tokens.{word_seen, number}
+use Rattle.player.specs.Tokens.{word_seen}
 use Rattle.player.proofs.Following.{token-seen, field-taken}
 use Rattle.player.proofs.text.read_field.Goals as goal
 
