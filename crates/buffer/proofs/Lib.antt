@@ -1,2 +1,1 @@
-mod Searching
 mod Buffering

@@ -3,7 +3,7 @@ use Rattle.std.specs.Prelude.{ℕ, List, map}
 use Rattle.buffer.specs.declared.tasks.Tasks.{Tasks}
 use Rattle.versions.specs.declared.version.Version.{Version}
 use Rattle.versions.specs.Orders.{processors, Ordered}
-use Rattle.buffer.specs.Rows.{table_in, GoodRows}
+use Rattle.buffer.specs.Rows.{table_in}
 use Rattle.versions.specs.Tables.{Table}
 
 abbrev pub processors_of : Tasks → List ℕ
@@ -18,4 +18,3 @@ versions_at t a ps = map (λ q. table_of t q a) ps
 
 pub record GoodTasks (t : Tasks) : Type 0 where
   pub order : Ordered t.order
-  pub rows : GoodRows t.rows

@@ -1,15 +1,16 @@
 // The active tasks of the central buffer: their order, and the rows with their versions.
-ghost use Rattle.std.specs.Prelude.{◌≡◌, ℕ, ◌%◌, ◌<◌, ◌≤◌, true, [], ◌∷◌, ◌++◌, length, take, drop, None};
+ghost use Rattle.std.specs.Prelude.{◌≡◌, ℕ, ◌<◌, ◌≤◌, [], ◌∷◌, ◌++◌, length, take, drop, None};
 ghost use Rattle.versions.specs.Orders.{place_in};
 ghost use Rattle.versions.specs.Plain.{holds_class};
 ghost use Rattle.versions.specs.Tables.{empty_table, task_by, with_version, without, without_all, Fitting, HeldIn};
+ghost use Rattle.buffer.specs.Rows.{HoldsNoOther};
 ghost use Rattle.buffer.specs.Tasks.{processors_of, table_of, versions_at, GoodTasks};
-ghost use Rattle.versions.specs.Versions.{is_held, nearest_own, squashed_by};
+ghost use Rattle.versions.specs.Versions.{nearest_own, squashed_by};
 
 use crate::rows::Rows;
 use versions::{Order, Version};
 
-#[derive(Clone, Copy)]
+#[derive(Drop)]
 pub struct Tasks {
     order: Order,
     rows: Rows,
@@ -125,7 +126,7 @@ impl Tasks {
     pub fn put(&mut self, p: u32, a: u32, v: Version)
         requires good_tasks { GoodTasks self.old }
         requires p_bound { p < 4 }
-        requires by_index { (b : ℕ) → is_held (table_of self.old p b) ≡ true → b % 16 ≡ a % 16 → b ≡ a }
+        requires no_other { HoldsNoOther (table_of self.old p) a }
         ensures order { processors_of self.new ≡ processors_of self.old }
         ensures table { table_of self.new ≡ with_version (table_of self.old) p a v }
         ensures kept { GoodTasks self.new }

@@ -34,7 +34,7 @@ put-requires g c =
     let same = sym c.seen.ensures.tasks in (record {
       good_tasks = subst GoodTasks same c.requires.tasks;
       p_bound = y.1;
-      by_index = subst (λ (t : Tasks). (x : ℕ) → is_held (table_of t c.args.p x) ≡ true → x % 16 ≡ c.args.a % 16 → x ≡ c.args.a) same
+      no_other = subst (λ (t : Tasks). (x : ℕ) → is_held (table_of t c.args.p x) ≡ true → x % 16 ≡ c.args.a % 16 → x ≡ c.args.a) same
           (class-free (length ws) (processors_of b.tasks) (table_of b.tasks) c.args.p c.args.a c.requires.fits y.3);
     })
 

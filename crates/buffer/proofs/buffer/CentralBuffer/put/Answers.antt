@@ -42,7 +42,7 @@ put-requires g c =
     let y = ok-access (length ws) ps (table_of b.tasks) c.args.p c.args.a c.in_ok-k.k c.in_ok-k.ensures in (record {
       good_tasks = c.cut.ensures.kept;
       p_bound = y.1;
-      by_index = subst (λ (t : Table). (x : ℕ) → is_held (t c.args.p x) ≡ true → x % 16 ≡ c.args.a % 16 → x ≡ c.args.a) (sym c.cut.ensures.table)
+      no_other = subst (λ (t : Table). (x : ℕ) → is_held (t c.args.p x) ≡ true → x % 16 ≡ c.args.a % 16 → x ≡ c.args.a) (sym c.cut.ensures.table)
           (λ x held class. class-free (length ws) ps (table_of b.tasks) c.args.p c.args.a c.requires.fits y.3 x
           (held-without (table_of b.tasks) (drop (c.len-active.result - c.squashed-hit.result) ps) c.args.p x held) class);
     })

@@ -1,5 +1,4 @@
 use Rattle.std.proofs.Common.{◌≡◌, take, drop}
-use Rattle.buffer.specs.Rows.{GoodRows}
 use Rattle.versions.specs.Tables.{without_all}
 use Rattle.buffer.specs.Tasks.{processors_of, table_of}
 use Rattle.buffer.proofs.tasks.Tasks.cut.Given as goal
@@ -8,5 +7,4 @@ use Rattle.buffer.proofs.tasks.Tasks.cut.Given as goal
 abbrev pub invariant-loop-i : goal.invariant-loop-i
 invariant-loop-i l =
     (l.self.order ≡ l.initial.self.order)
-    × GoodRows l.self.rows
     × (table_of l.self ≡ without_all (table_of l.initial.self) (drop l.k (take l.i (processors_of l.initial.self))))
