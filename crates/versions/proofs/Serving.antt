@@ -1,19 +1,17 @@
 -- A turn that a store with a table of versions serves: from its chain of conditions and its changes of words, order and
 -- table to the plain store's answer and state.
-use Rattle.std.proofs.Common.{◌≡◌, ℕ, suc, ◌+◌, ◌-◌, ◌%◌, ◌<◌, ◌≤◌, Bool, true, false, cond, not, ◌&&◌, eqb, ltb, leb, List, [], ◌∷◌, ◌++◌, map, length, get_or, take, drop, is_some, Some, None, Ok, Err, Option, Result, sym, refl, ap, ◌∙◌, subst, ⊎_elim, add-one, arith}
+use Rattle.std.proofs.Common.{◌≡◌, ℕ, suc, ◌+◌, ◌-◌, ◌%◌, ◌<◌, ◌≤◌, Bool, true, false, cond, not, ◌&&◌, eqb, ltb, leb, List, [], ◌∷◌, ◌++◌, map, length, get_or, take, drop, is_some, Some, None, Ok, Err, Option, Result, sym, refl, ap, ◌∙◌, subst, ⊎_elim, add-one}
 use Rattle.memory.specs.Client.{count_below}
 use Rattle.memory.specs.Words.{read_answer}
 use Rattle.memory.specs.declared.error.MemoryError.{MemoryError}
 use Rattle.memory.specs.declared.error.MemoryError.TheVariants.{Address}
-use Rattle.std.proofs.lemmas.List.{length-take-le}
 use Rattle.std.proofs.lemmas.Bool.{eq-eqb, ne_eqb, cases_eq, cond-true, cond-false, lt-leb, le-leb, lt-ltb, true≢false}
 use Rattle.versions.specs.declared.refusal.Refusal.{Refusal}
 use Rattle.versions.specs.declared.refusal.Refusal.TheVariants.{NoProcessor, TaskActive}
 use Rattle.versions.specs.declared.turn.Turn.{Turn}
 use Rattle.versions.specs.declared.turn.Turn.TheVariants.{Start, Load, Store, Squash, Commit, Replace}
 use Rattle.versions.specs.declared.version.Version.{Version}
-use Rattle.versions.specs.declared.order.Order.{Order}
-use Rattle.versions.specs.Orders.{place_in, Apart, processors, Ordered}
+use Rattle.versions.specs.Orders.{place_in, Apart}
 use Rattle.versions.specs.Plain.{Plain, holds_class, laid_over_all, written_to, refusal_of, given, moved, answer_of, state_after}
 use Rattle.versions.specs.Tables.{Table, task_by, plain_of, with_version, without, without_all, Fitting, access_place, squash_place, commit_place, replace_place}
 use Rattle.versions.specs.Versions.{no_version, is_own, is_held, with_load, with_store, seen_by, squashed_by}
@@ -207,7 +205,3 @@ read-inside ws a w h e =
 -- how many tasks a store squashes, where the code counts from the place after p's
 pub hit-is : (table : Table) (ps : List ℕ) (k a n : ℕ) → n ≡ squashed_by (map (λ q. table q a) (drop (k + 1) ps)) → n ≡ squashes table ps k a
 hit-is table ps k a n e = e ∙ ap (λ (j : ℕ). squashed_by (map (λ q. table q a) (drop j ps))) (add-one k)
-
--- there are at most four
-pub few : (o : Order) → Ordered o → length (processors o) ≤ 4
-few o x = omega (arith, length-take-le o.count o.list (omega (arith, x.room, x.few)), x.few)
