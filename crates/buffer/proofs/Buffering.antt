@@ -278,21 +278,20 @@ module _ (rs : List Row) (p a : ℕ) (g : GoodSet (a % 16) rs) (l : p < 4) (mine
       go None h None s None f e = absurd (cc)
 
 -- p's rows of a's class are of address a, where p holds no other address of the class
-pub rows-mine : (sets : List (List Row)) (p a : ℕ) → GoodSets sets → HoldsNoOther (in_sets sets p) a
-    → (i : ℕ) → i < 4 → is_held (in_row (get_or (get_or sets (a % 16) []) i no_row) p) ≡ true → (get_or (get_or sets (a % 16) []) i no_row).address ≡ a
-rows-mine sets p a g class i l h =
-    let s = g.each (a % 16) (omega arith) in
-    let rs = get_or sets (a % 16) [] in
-    let same : (get_or rs i no_row).address % 16 ≡ a % 16 = s.class p i l h in
+pub rows-mine : (sets : List (List Row)) (c p a : ℕ) → c ≡ a % 16 → GoodSets sets → HoldsNoOther (in_sets sets p) a
+    → (i : ℕ) → i < 4 → is_held (in_row (get_or (get_or sets c []) i no_row) p) ≡ true → (get_or (get_or sets c []) i no_row).address ≡ a
+rows-mine sets c p a class_is g class i l h =
+    let s = g.each c (omega arith) in
+    let rs = get_or sets c [] in
+    let same : (get_or rs i no_row).address % 16 ≡ c = s.class p i l h in
     class (get_or rs i no_row).address
-    (ap (λ (c : ℕ). is_held (in_rows (get_or sets c []) p (get_or rs i no_row).address)) same ∙ row_shows rs p i (omega (arith, s.count)) h) same
+    (ap (λ (d : ℕ). is_held (in_rows (get_or sets d []) p (get_or rs i no_row).address)) same ∙ row_shows rs p i (omega (arith, s.count)) h) (same ∙ class_is)
 
 -- the table after p's version of a was put into its set
-pub put-table : (sets later : List (List Row)) (j p a : ℕ) (v : Version) → GoodSets sets → p < 4 → RowFor (get_or sets (a % 16) []) p a j
-    → later ≡ set sets (a % 16) (set (get_or sets (a % 16) []) j (row_with (get_or (get_or sets (a % 16) []) j no_row) p a v))
+pub put-table : (sets later : List (List Row)) (c j p a : ℕ) (v : Version) → c ≡ a % 16 → GoodSets sets → p < 4 → RowFor (get_or sets c []) p a j
+    → later ≡ set sets c (set (get_or sets c []) j (row_with (get_or (get_or sets c []) j no_row) p a v))
     → (in_sets later ≡ with_version (in_sets sets) p a v) × GoodSets later
-put-table sets later j p a v g l x is =
-    let c = a % 16 in
+put-table sets later c j p a v class_is g l x is =
     let rs = get_or sets c [] in
     let s = g.each c (omega arith) in
     let new = set rs j (row_with (get_or rs j no_row) p a v) in
@@ -310,7 +309,7 @@ put-table sets later j p a v g l x is =
           ∙ (put-rows rs j p a v (omega (arith, s.count, x.within)) wide fits (λ i k h. x.only i (omega (arith, s.count)) h) q b
           ∙ ap (λ (d : ℕ). cond (eqb q p && eqb a b) v (in_rows (get_or sets d []) q b)) (sym e))))
           (λ (ne : b % 16 ≢ c).
-          let apart : eqb a b ≡ false = ne_eqb a b (λ e. ne (ap (λ (y : ℕ). y % 16) (sym e))) in
+          let apart : eqb a b ≡ false = ne_eqb a b (λ e. ne (ap (λ (y : ℕ). y % 16) (sym e) ∙ sym class_is)) in
           let off : (eqb q p && eqb a b) ≡ false = grind (arith, nat_tests) in
           ap (λ (t : List Row). in_rows t q b) (there (b % 16) ne) ∙ sym (cond-false (eqb q p && eqb a b) v (in_sets sets q b) off))
           (cases_eq (b % 16) c))),
@@ -318,7 +317,7 @@ put-table sets later j p a v g l x is =
         count = ap length is ∙ (length-set sets c new ∙ g.count);
         each = λ d k.
             ⊎_elim
-            (λ (e : d ≡ c). subst (λ (y : ℕ). GoodSet y (get_or later y [])) (sym e) (subst (GoodSet c) (sym here) (put-good c rs j p a v s x refl)))
+            (λ (e : d ≡ c). subst (λ (y : ℕ). GoodSet y (get_or later y [])) (sym e) (subst (GoodSet c) (sym here) (put-good c rs j p a v s x (sym class_is))))
             (λ (ne : d ≢ c). subst (GoodSet d) (sym (there d ne)) (g.each d k))
             (cases_eq d c);
       },

@@ -1,1 +1,3 @@
 mod Buffering
+mod Going
+mod Starting

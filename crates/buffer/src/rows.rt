@@ -5,7 +5,7 @@ ghost use Rattle.std.specs.List.{position};
 ghost use Rattle.buffer.specs.Sets.{no_row, in_row, row_with, is_free, in_rows, held_address, without_row, GoodSet, GoodSets, RowFor};
 ghost use Rattle.versions.specs.Versions.{is_held};
 
-use versions::Version;
+use versions::{Class, Processor, Version};
 
 // An address and a version of it for each processor. A row without any is free.
 #[derive(Clone, Copy)]
@@ -16,27 +16,24 @@ pub struct Row {
 
 impl Row {
     // p's version.
-    fn version(&self, p: usize) -> Version
-        requires { p < 4 }
+    fn version(&self, p: Processor) -> Version
         ensures { result ≡ in_row self.now p }
     {
-        self.versions[p]
+        self.versions[p.index()]
     }
 
     // Whether p holds the row.
-    fn held_by(&self, p: usize) -> bool
-        requires { p < 4 }
+    fn held_by(&self, p: Processor) -> bool
         ensures { result ≡ is_held (in_row self.now p) }
     {
         self.version(p).is_held()
     }
 
     // Takes p's version out.
-    fn clear(&mut self, p: usize)
-        requires { p < 4 }
+    fn clear(&mut self, p: Processor)
         ensures { self.new ≡ without_row p self.old }
     {
-        self.versions[p] = Version::none();
+        self.versions[p.index()] = Version::none();
     }
 
     // Whether nobody holds the row.
@@ -48,8 +45,7 @@ impl Row {
 }
 
 // p's version of a among the rows of a set.
-fn in_rows(rows: &[Row], p: usize, a: u32) -> Version
-    requires { p < 4 }
+fn in_rows(rows: &[Row], p: Processor, a: u32) -> Version
     ensures { result ≡ in_rows rows.now p a }
 {
     rows.iter()
@@ -58,8 +54,7 @@ fn in_rows(rows: &[Row], p: usize, a: u32) -> Version
 }
 
 // The address that p holds among the rows of a set.
-fn held_address(rows: &[Row], p: usize) -> Option<u32>
-    requires { p < 4 }
+fn held_address(rows: &[Row], p: Processor) -> Option<u32>
     ensures { result ≡ held_address rows.now p }
 {
     rows.iter()
@@ -68,8 +63,7 @@ fn held_address(rows: &[Row], p: usize) -> Option<u32>
 }
 
 // Takes p's versions out of the rows of a set.
-fn clear_rows(rows: &mut [Row], p: usize)
-    requires { p < 4 }
+fn clear_rows(rows: &mut [Row], p: Processor)
     ensures { rows.new ≡ map (without_row p) rows.old }
 {
     for row in rows.iter_mut() {
@@ -78,22 +72,23 @@ fn clear_rows(rows: &mut [Row], p: usize)
 }
 
 // Makes v p's version of a, in the row at place j.
-fn put_row(rows: &mut [Row], j: usize, p: usize, a: u32, v: Version)
-    requires p_bound { p < 4 }
-    requires j_in_bounds { j < length rows.old }
-    ensures { rows.new ≡ slice_set rows.old j (row_with (slice_index_or rows.old j no_row) p a v) }
+fn put_row(rows: &mut [Row], j: usize, p: Processor, a: u32, v: Version)
+    requires { j < length rows.old }
+    ensures rows { rows.new ≡ slice_set rows.old j (row_with (slice_index_or rows.old j no_row) p a v) }
+    ensures bound { p < 4 }
 {
     let row = &mut rows[j];
     row.address = a;
-    row.versions[p] = v;
+    row.versions[p.index()] = v;
 }
 
 // The place of the row that p holds.
-fn held_place(rows: &[Row], p: usize) -> Option<usize>
-    requires { p < 4 }
-    ensures { result ≡ position (λ r. is_held (in_row r p)) rows.now }
+fn held_place(rows: &[Row], p: Processor) -> Option<usize>
+    ensures place { result ≡ position (λ r. is_held (in_row r p)) rows.now }
+    ensures bound { p < 4 }
 {
-    rows.iter().position(|row| row.held_by(p))
+    let i = p.index();
+    rows.iter().position(|row| row.versions[i].is_held())
 }
 
 // The place of a row of address a.
@@ -111,10 +106,9 @@ fn free_place(rows: &[Row]) -> Option<usize>
 }
 
 // A row of a set that can take p's version of a: the one that p holds, else one of the address, else a free one.
-fn row_for(rows: &[Row], p: usize, a: u32) -> usize
+fn row_for(rows: &[Row], p: Processor, a: u32) -> usize
     requires good_set { GoodSet (a % 16) rows.now }
-    requires p_bound { p < 4 }
-    requires by_index { (i : ℕ) → i < 4 → is_held (in_row (slice_index_or rows.now i no_row) p) ≡ true → (get_or rows.now i no_row).address ≡ a }
+    requires mine { (i : ℕ) → i < 4 → is_held (in_row (slice_index_or rows.now i no_row) p) ≡ true → (get_or rows.now i no_row).address ≡ a }
     ensures { RowFor rows.now p a result }
 {
     held_place(rows, p)
@@ -147,40 +141,35 @@ impl Rows {
     }
 
     // p's version of a.
-    pub fn version(&self, p: u32, a: u32) -> Version
-        requires { p < 4 }
+    pub fn version(&self, p: Processor, a: u32) -> Version
         ensures { result ≡ table_in self.now p a }
     {
-        in_rows(&self.sets[a as usize % 16], p as usize, a)
+        in_rows(&self.sets[Class::of(a).index()], p, a)
     }
 
     // The address of class c that p holds.
-    pub fn held(&self, p: u32, c: u32) -> Option<u32>
-        requires p_bound { p < 4 }
-        requires c_bound { c < 16 }
+    pub fn held(&self, p: Processor, c: Class) -> Option<u32>
         ensures { HeldIn (table_in self.now p) c result }
     {
-        held_address(&self.sets[c as usize], p as usize)
+        held_address(&self.sets[c.index()], p)
     }
 
     // Makes v p's version of a. p holds no other address of a's class.
-    pub fn put(&mut self, p: u32, a: u32, v: Version)
-        requires p_bound { p < 4 }
-        requires no_other { HoldsNoOther (table_in self.old p) a }
+    pub fn put(&mut self, p: Processor, a: u32, v: Version)
+        requires { HoldsNoOther (table_in self.old p) a }
         ensures { table_in self.new ≡ with_version (table_in self.old) p a v }
     {
-        let set = &mut self.sets[a as usize % 16];
-        let j = row_for(set, p as usize, a);
-        put_row(set, j, p as usize, a, v);
+        let set = &mut self.sets[Class::of(a).index()];
+        let j = row_for(set, p, a);
+        put_row(set, j, p, a, v);
     }
 
     // Takes p's versions out of all rows.
-    pub fn clear(&mut self, p: u32)
-        requires { p < 4 }
+    pub fn clear(&mut self, p: Processor)
         ensures { table_in self.new ≡ without (table_in self.old) p }
     {
         for set in self.sets.iter_mut() {
-            clear_rows(set, p as usize);
+            clear_rows(set, p);
         }
     }
 }
