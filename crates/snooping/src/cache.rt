@@ -46,21 +46,19 @@ impl Cache {
         line.store(a, w);
     }
 
-    // Points line c to another processor's line, or to none.
-    pub fn link(&mut self, c: usize, next: Option<u32>)
-        requires { c < 16 }
-        ensures { self.new.lines ≡ slice_set self.old.lines c (with_next (slice_index_or self.old.lines c blank) next) }
+    // Points the line of a to another processor's line, or to none.
+    pub fn link(&mut self, a: u32, next: Option<u32>)
+        ensures { self.new.lines ≡ slice_set self.old.lines (a % 16) (with_next (slice_index_or self.old.lines (a % 16) blank) next) }
     {
-        let line = &mut self.lines[c];
+        let line = &mut self.lines[a as usize % 16];
         line.link(next);
     }
 
-    // Ends what line c holds.
-    pub fn end(&mut self, c: usize, event: LineEvent)
-        requires { c < 16 }
-        ensures { self.new.lines ≡ slice_set self.old.lines c (ended event (slice_index_or self.old.lines c blank)) }
+    // Ends what the line of a holds.
+    pub fn end(&mut self, a: u32, event: LineEvent)
+        ensures { self.new.lines ≡ slice_set self.old.lines (a % 16) (ended event (slice_index_or self.old.lines (a % 16) blank)) }
     {
-        let line = &mut self.lines[c];
+        let line = &mut self.lines[a as usize % 16];
         line.end(event);
     }
 
@@ -68,7 +66,9 @@ impl Cache {
     pub fn end_all(&mut self, event: LineEvent)
         ensures { self.new.lines ≡ map (ended event) self.old.lines }
     {
-        end_lines(&mut self.lines, event);
+        for line in self.lines.iter_mut() {
+            line.end(event);
+        }
     }
 
     // Ends pointers to processors without a task.
@@ -76,27 +76,8 @@ impl Cache {
         requires { Ordered order.now }
         ensures { self.new.lines ≡ map (unlinked (processors order.now)) self.old.lines }
     {
-        unlink_lines(&mut self.lines, order);
-    }
-}
-
-// Ends what each line of a row holds.
-fn end_lines(lines: &mut [Line], event: LineEvent)
-    ensures { lines.new ≡ map (ended event) lines.old }
-{
-    for c in 0..lines.len() {
-        let line = &mut lines[c];
-        line.end(event);
-    }
-}
-
-// Ends each pointer of a row that names a processor without a task.
-fn unlink_lines(lines: &mut [Line], order: &Order)
-    requires { Ordered order.now }
-    ensures { lines.new ≡ map (unlinked (processors order.now)) lines.old }
-{
-    for c in 0..lines.len() {
-        let line = &mut lines[c];
-        line.unlink(order);
+        for line in self.lines.iter_mut() {
+            line.unlink(order);
+        }
     }
 }

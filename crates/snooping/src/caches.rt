@@ -82,7 +82,7 @@ impl Caches {
         ensures order { self.new.order ≡ self.old.order }
         ensures kept { Wide self.new.list }
     {
-        self.list[p as usize].link(a as usize % 16, next);
+        self.list[p as usize].link(a, next);
     }
 
     // Ends what p's line of address a holds, as a replacement does.
@@ -93,7 +93,7 @@ impl Caches {
         ensures order { self.new.order ≡ self.old.order }
         ensures kept { Wide self.new.list }
     {
-        self.list[p as usize].end(a as usize % 16, LineEvent::Replace);
+        self.list[p as usize].end(a, LineEvent::Replace);
     }
 
     // Ends what all lines of p hold.

@@ -39,11 +39,7 @@ impl Line {
         }
         Version {
             mark: self.state.has_l(),
-            own: if self.state.has_s() {
-                Some(self.word)
-            } else {
-                None
-            },
+            own: self.state.has_s().then_some(self.word),
         }
     }
 
@@ -94,11 +90,6 @@ impl Line {
         requires { Ordered order.now }
         ensures { self.new ≡ unlinked (processors order.now) self.old }
     {
-        let next = self.next;
-        if let Some(p) = next {
-            if order.place(p).is_none() {
-                self.next = None;
-            }
-        }
+        self.next = self.next.filter(|p| order.place(*p).is_some());
     }
 }

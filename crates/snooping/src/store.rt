@@ -14,7 +14,7 @@ ghost use Rattle.snooping.specs.Snooping.{plain_in, SoundSnooping, line_answer, 
 
 use crate::caches::Caches;
 use crate::line::Line;
-use crate::report::{BusReport, committed, given_back, supplier_of};
+use crate::report::{BusReport, Supplier};
 use memory::Memory;
 use versions::{Answer, Refusal, Turn, VersionStore};
 
@@ -220,7 +220,7 @@ impl<M: Memory> SnoopingStore<M> {
         let nearest = self.caches.nearest(k, a);
         let w = self.supplied(nearest, a)?;
         self.caches.fill(p, a, w);
-        self.report = BusReport::bus_read(a, supplier_of(nearest));
+        self.report = BusReport::bus_read(a, Supplier::from(nearest));
         Ok(w)
     }
 
@@ -278,7 +278,7 @@ impl<M: Memory> SnoopingStore<M> {
         let own = self.caches.version(p, a).own;
         let wrote = self.write_own(a, own);
         self.caches.end_line(p, a);
-        self.report = given_back(a, own);
+        self.report = BusReport::written_back(own.and(Some(a)), wrote);
         Ok(wrote)
     }
 
@@ -342,7 +342,7 @@ impl<M: Memory> SnoopingStore<M> {
         let _k = self.committable(p)?;
         let (wrote, last) = self.write_back(p);
         self.caches.retire(p);
-        self.report = committed(last, wrote);
+        self.report = BusReport::written_back(last, wrote);
         Ok(wrote)
     }
 }

@@ -90,7 +90,7 @@ returns g c =
     c.nearest-nearest.result (g.M.Memory.words c.supplied.new.self.memory) (processors_of c.fill.new.self) c.fill.new.self.list c.bus_read-self.result
     c.in_ok-k.ensures (ap is_held (sym version) ∙ (sym c.is_held.ensures ∙ c.if-is_held.false)) c.nearest-nearest.ensures
     (ok-value w _ c.in_ok-w.ensures.answer) c.supplied.ensures.words (ap processors c.fill.ensures.order ∙ ap processors_of same) filled c.fill.ensures.kept.wide
-    (c.bus_read-self.ensures ∙ ap (bus_read c.args.a) c.supplier_of.ensures) in
+    (c.bus_read-self.ensures ∙ ap (bus_read c.args.a) c.from.ensures) in
     record {
       answer = turn.answer;
       after = turn.after;

@@ -1,4 +1,5 @@
-use Rattle.std.proofs.Common.{◌≡◌, ℕ, ◌%◌, cond, length, is_some, Err, Option, sym, refl, ap, ◌∙◌, subst}
+use Rattle.std.proofs.Common.{◌≡◌, ℕ, ◌%◌, cond, length, is_some, Some, None, Err, Option, sym, refl, ap, ◌∙◌, subst}
+use Rattle.std.specs.Option.{option_and}
 use Rattle.std.proofs.lemmas.Result.{err_from_is_err_and}
 use Rattle.versions.specs.declared.version.Version.{Version}
 use Rattle.versions.specs.Orders.{processors, Ordered}
@@ -11,9 +12,14 @@ use Rattle.versions.specs.Plain.{written_to}
 use Rattle.versions.specs.Tables.{replace_place}
 use Rattle.versions.proofs.Judging.{replace-agrees}
 use Rattle.versions.proofs.Serving.{refused-by}
-use Rattle.snooping.specs.Report.{quiet, written_back}
+use Rattle.snooping.specs.Report.{quiet, written_back, written_last}
 use Rattle.snooping.proofs.Snooped.{turn-refused, turn-replace}
 use Rattle.snooping.proofs.store.SnoopingStore.give_back.Goals as goal
+
+-- the report of a replacement, which writes one word or none
+given-back : (own : Option ℕ) (a : ℕ) → written_last (option_and own (Some a)) (cond (is_some own) 1 0) ≡ cond (is_some own) (written_back a 1) quiet
+given-back None a = refl
+given-back (Some w) a = refl
 
 pub returns-in_err-_k : goal.returns-in_err-_k
 returns-in_err-_k g c =
@@ -35,12 +41,16 @@ returns g c =
     let same = c.write_own-wrote.ensures.caches in
     let own : c.version-own.result.own ≡ (table c.args.p c.args.a).own = ap (λ (v : Version). v.own) c.version-own.ensures in
     let turn = turn-replace ws ps s.caches.list c.requires.caches.wide c.requires.caches.order.apart c.requires.fits c.requires.lines s.report c.args.p c.args.a c.in_ok-_k._k c.write_own-wrote.result
-    (g.M.Memory.words c.write_own-wrote.new.self.memory) (processors_of c.end_line.new.self) c.end_line.new.self.list c.given_back-self.result c.in_ok-_k.ensures
+    (g.M.Memory.words c.write_own-wrote.new.self.memory) (processors_of c.end_line.new.self) c.end_line.new.self.list c.written_back-self.result c.in_ok-_k.ensures
     (c.write_own-wrote.ensures.count ∙ ap (λ (o : Option ℕ). cond (is_some o) 1 0) own)
     (c.write_own-wrote.ensures.words ∙ ap (λ (o : Option ℕ). written_to o c.args.a ws) own)
     (ap processors c.end_line.ensures.order ∙ ap processors_of same)
     (c.end_line.ensures.lines ∙ ap (λ (x : Caches). with_line (lines_in x) c.args.p (c.args.a % 16) blank) same) c.end_line.ensures.kept
-    (c.given_back-self.ensures ∙ ap (λ (o : Option ℕ). cond (is_some o) (written_back c.args.a 1) quiet) own) in
+    (c.written_back-self.ensures
+    ∙ (ap (λ (o : Option ℕ). written_last o c.write_own-wrote.result) c.and.ensures
+    ∙ (ap (written_last (option_and c.version-own.result.own (Some c.args.a))) c.write_own-wrote.ensures.count
+    ∙ (given-back c.version-own.result.own c.args.a
+    ∙ ap (λ (o : Option ℕ). cond (is_some o) (written_back c.args.a 1) quiet) own)))) in
     record {
       answer = turn.answer;
       after = turn.after;

@@ -40,10 +40,10 @@ returns g c =
     let ps = processors_of s.caches in
     let same = c.write_back-wrote.ensures.caches in
     let turn = turn-commit ws ps s.caches.list c.requires.caches.wide c.requires.caches.order.apart c.requires.fits c.requires.lines s.report c.args.p c.in_ok-_k._k c.write_back-wrote.result.0
-    c.write_back-wrote.result.1 (g.M.Memory.words c.write_back-wrote.new.self.memory) (processors_of c.retire.new.self) c.retire.new.self.list c.committed-self.result
+    c.write_back-wrote.result.1 (g.M.Memory.words c.write_back-wrote.new.self.memory) (processors_of c.retire.new.self) c.retire.new.self.list c.written_back-self.result
     c.in_ok-_k.ensures c.write_back-wrote.ensures.count c.write_back-wrote.ensures.last c.write_back-wrote.ensures.words
     (c.retire.ensures.order ∙ ap (λ (t : Caches). drop 1 (processors_of t)) same)
-    (c.retire.ensures.lines ∙ ap (λ (t : Caches). with_cache (lines_in t) c.args.p (ended CommitLine)) same) c.retire.ensures.kept.wide c.committed-self.ensures in
+    (c.retire.ensures.lines ∙ ap (λ (t : Caches). with_cache (lines_in t) c.args.p (ended CommitLine)) same) c.retire.ensures.kept.wide c.written_back-self.ensures in
     record {
       answer = turn.answer;
       after = turn.after;
