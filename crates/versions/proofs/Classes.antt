@@ -1,6 +1,6 @@
 -- A task by classes: it holds at most one address of each of the 16. Whether a class is taken, and how a commit that goes
 -- class by class writes and counts all own words.
-use Rattle.std.proofs.Common.{◌≡◌, ℕ, zero, suc, ◌+◌, ◌%◌, ◌<◌, ◌≤◌, Bool, true, false, cond, not, ◌&&◌, ◌||◌, eqb, ltb, ◌≢◌, List, length, get_or, set, is_some, Some, None, Option, unwrap_or, sym, refl, ap, ◌∙◌, subst, ⊎_elim, add-zero, arith}
+use Rattle.std.proofs.Common.{◌≡◌, ℕ, zero, suc, ◌+◌, ◌%◌, ◌<◌, ◌≤◌, Bool, true, false, cond, not, ◌&&◌, ◌||◌, eqb, ltb, ◌≢◌, List, length, get_or, set, is_some, Some, None, Option, MatchOption, unwrap_or, sym, refl, ap, ◌∙◌, subst, ⊎_elim, add-zero, arith}
 use Rattle.std.proofs.lemmas.List.{ext_get_or, length-set, get_or-set_same, get_or-set_other}
 use Rattle.std.proofs.lemmas.Bool.{eqb-true, eq-eqb, ne_eqb, cases_eq, cases_lt, lt-ltb, le-ltb, cond-true, cond-false, true≢false, or_left, or_right, or_parts}
 use Rattle.std.proofs.lemmas.Bool.Decides.{nat_tests}
@@ -48,6 +48,11 @@ any_below-none f (suc n) h = rw (h n, any_below-none f n h)
 abbrev pub taken_by : Option ℕ → ℕ → Bool
 taken_by None a = false
 taken_by (Some b) a = not (eqb b a)
+
+-- a test of the address that is held
+pub taken-test : {P : ℕ → Type 0} (o : Option ℕ) (a : ℕ) (r : Bool) → MatchOption o (r ≡ false) P → ((b : ℕ) → P b → r ≡ not (eqb b a)) → r ≡ taken_by o a
+taken-test None a r m test = m
+taken-test (Some b) a r m test = test b m
 
 pub class-taken : (t : Task) (a n : ℕ) (o : Option ℕ) → HeldIn t.at (a % 16) o
     → ((b : ℕ) → is_held (t.at b) ≡ true → b < n) → ((b c : ℕ) → is_held (t.at b) ≡ true → is_held (t.at c) ≡ true → b % 16 ≡ c % 16 → b ≡ c)

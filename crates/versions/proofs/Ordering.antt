@@ -1,6 +1,8 @@
 -- Laws of the order of the active tasks: the place of a processor in it, and that no processor is in it twice.
-use Rattle.std.proofs.Common.{◌≡◌, ℕ, zero, suc, ◌+◌, ◌-◌, ◌<◌, ◌≤◌, Bool, true, false, cond, eqb, List, [], ◌∷◌, ◌++◌, length, get_or, take, drop, Some, None, Option, sym, refl, ap, ◌∙◌, arith}
+use Rattle.std.proofs.Common.{◌≡◌, ℕ, zero, suc, ◌+◌, ◌-◌, ◌<◌, ◌≤◌, Bool, true, false, cond, eqb, ltb, List, [], ◌∷◌, ◌++◌, length, get_or, take, drop, Some, None, Option, sym, refl, ap, ◌∙◌, arith}
 use Rattle.std.specs.Option.{option_map}
+use Rattle.std.specs.List.{position_from, position_or_len}
+use Rattle.std.proofs.lemmas.Iterator.Adapters.{position_from-zero}
 use Rattle.std.proofs.lemmas.List.{drop_more, drop_all, take-append-le}
 use Rattle.std.proofs.lemmas.Bool.{eq-eqb, ne_eqb, eqb-false}
 use Rattle.versions.specs.Orders.{place_in, Apart}
@@ -54,43 +56,23 @@ pub apart-drop : (qs : List ℕ) → Apart qs → Apart (drop 1 qs)
 apart-drop [] a = tt
 apart-drop (q ∷ qs) a = a.2
 
--- a row of four, moved down by one
-pub shifted_down : (l : List ℕ) (k : ℕ) → length l ≡ 4 → 0 < k → k ≤ 4
-    → take (k - 1) (get_or l 1 0 ∷ get_or l 2 0 ∷ get_or l 3 0 ∷ 0 ∷ []) ≡ drop 1 (take k l)
-shifted_down [] k n h m = absurd (omega arith)
-shifted_down (a ∷ []) k n h m = absurd (omega arith)
-shifted_down (a ∷ b ∷ []) k n h m = absurd (omega arith)
-shifted_down (a ∷ b ∷ c ∷ []) k n h m = absurd (omega arith)
-shifted_down (a ∷ b ∷ c ∷ d ∷ []) k n h m =
-    let e : k ≡ suc (k - 1) = omega arith in
-    take-append-le (k - 1) (b ∷ c ∷ d ∷ []) (0 ∷ []) (omega arith) ∙ ap (λ (j : ℕ). drop 1 (take j (a ∷ b ∷ c ∷ d ∷ []))) (sym e)
-shifted_down (a ∷ b ∷ c ∷ d ∷ e ∷ l) k n h m = absurd (omega arith)
+-- the library's search for the place of p
+place_from : (qs : List ℕ) (p i : ℕ) → position_from (λ q. eqb q p) i qs ≡ option_map (λ n. i + n) (place_in qs p)
+place_from [] p i = refl
+place_from (q ∷ qs) p i = go (eqb q p) (place_in qs p) (place_from qs p (i + 1))
+  where
+    go : (t : Bool) (o : Option ℕ) → position_from (λ q. eqb q p) (i + 1) qs ≡ option_map (λ n. i + 1 + n) o
+        → cond t (Some i) (position_from (λ q. eqb q p) (i + 1) qs) ≡ option_map (λ n. i + n) (cond t (Some 0) (option_map suc o))
+    go true o e = ap Some (omega arith)
+    go false None e = e
+    go false (Some n) e = e ∙ ap Some (omega arith)
 
--- the place of p is found from the front: not yet up to i
-abbrev pub shifted_by : ℕ → Option ℕ → Option ℕ
-shifted_by i o = option_map (λ n. i + n) o
-
-pub shifted_by-none : (o : Option ℕ) → shifted_by 0 o ≡ o
-shifted_by-none None = refl
-shifted_by-none (Some n) = ap Some (omega arith)
-
-shifted_by-suc : (i : ℕ) (o : Option ℕ) → shifted_by i (option_map suc o) ≡ shifted_by (i + 1) o
-shifted_by-suc i None = refl
-shifted_by-suc i (Some n) = ap Some (omega arith)
-
-pub place-further : (qs : List ℕ) (p i : ℕ) → i < length qs → (get_or qs i 0 ≡ p → ⊥) → place_in qs p ≡ shifted_by i (place_in (drop i qs) p)
-    → place_in qs p ≡ shifted_by (i + 1) (place_in (drop (i + 1) qs) p)
-place-further qs p i h ne e =
-    e ∙ (ap (λ (l : List ℕ). shifted_by i (place_in l p)) (drop_more qs i 0 h)
-    ∙ (ap (λ (t : Bool). shifted_by i (cond t (Some 0) (option_map suc (place_in (drop (i + 1) qs) p)))) (ne_eqb (get_or qs i 0) p ne) ∙ shifted_by-suc i (place_in (drop (i + 1) qs) p)))
-
-pub place_here : (qs : List ℕ) (p i : ℕ) → i < length qs → get_or qs i 0 ≡ p → place_in qs p ≡ shifted_by i (place_in (drop i qs) p) → Some i ≡ place_in qs p
-place_here qs p i h same e =
-    sym (e ∙ (ap (λ (l : List ℕ). shifted_by i (place_in l p)) (drop_more qs i 0 h)
-    ∙ (ap (λ (t : Bool). shifted_by i (cond t (Some 0) (option_map suc (place_in (drop (i + 1) qs) p)))) (eq-eqb (get_or qs i 0) p same) ∙ ap Some (omega arith))))
-
-pub place-nowhere : (qs : List ℕ) (p i : ℕ) → length qs ≤ i → place_in qs p ≡ shifted_by i (place_in (drop i qs) p) → None ≡ place_in qs p
-place-nowhere qs p i h e = sym (e ∙ ap (λ (l : List ℕ). shifted_by i (place_in l p)) (drop_all i qs h))
+pub found_place : (qs : List ℕ) (p : ℕ) → cond (ltb (position_or_len (λ q. eqb q p) qs) (length qs)) (Some (position_or_len (λ q. eqb q p) qs)) None ≡ place_in qs p
+found_place qs p = position_from-zero (λ q. eqb q p) qs ∙ (place_from qs p 0 ∙ same (place_in qs p))
+  where
+    same : (o : Option ℕ) → option_map (λ n. 0 + n) o ≡ o
+    same None = refl
+    same (Some n) = ap Some (omega arith)
 
 differs : (a b : ℕ) → eqb a b ≡ false → a ≡ b → ⊥
 differs a b e = eqb-false a b e
@@ -136,3 +118,8 @@ pub apart_below : (qs : List ℕ) (k : ℕ) → Apart qs → k < length qs → g
 apart_below [] k a h = absurd (omega arith)
 apart_below (q ∷ qs) zero a h = a.0
 apart_below (q ∷ qs) (suc k) a h = apart_below qs k a.2 (omega arith)
+
+-- there are at most four
+pub few : (qs : List ℕ) → Apart qs → length qs ≤ 4
+few [] a = omega arith
+few (q ∷ qs) a = omega (arith, room_for qs q a.2 a.0 a.1 (few qs a.2))

@@ -12,8 +12,7 @@ use Rattle.versions.specs.declared.refusal.Refusal.TheVariants.{NoProcessor, Tas
 use Rattle.versions.specs.declared.turn.Turn.{Turn}
 use Rattle.versions.specs.declared.turn.Turn.TheVariants.{Start, Load, Store, Squash, Commit, Replace}
 use Rattle.versions.specs.declared.version.Version.{Version}
-use Rattle.versions.specs.declared.order.Order.{Order}
-use Rattle.versions.specs.Orders.{place_in, Apart, processors, Ordered}
+use Rattle.versions.specs.Orders.{place_in, Apart}
 use Rattle.versions.specs.Plain.{Plain, holds_class, laid_over_all, written_to, refusal_of, given, moved, answer_of, state_after}
 use Rattle.versions.specs.Tables.{Table, task_by, plain_of, with_version, without, without_all, Fitting, access_place, squash_place, commit_place, replace_place}
 use Rattle.versions.specs.Versions.{no_version, is_own, is_held, with_load, with_store, seen_by, squashed_by}
@@ -207,7 +206,3 @@ read-inside ws a w h e =
 -- how many tasks a store squashes, where the code counts from the place after p's
 pub hit-is : (table : Table) (ps : List ℕ) (k a n : ℕ) → n ≡ squashed_by (map (λ q. table q a) (drop (k + 1) ps)) → n ≡ squashes table ps k a
 hit-is table ps k a n e = e ∙ ap (λ (j : ℕ). squashed_by (map (λ q. table q a) (drop j ps))) (add-one k)
-
--- there are at most four
-pub few : (o : Order) → Ordered o → length (processors o) ≤ 4
-few o x = omega (arith, length-take-le o.count o.list (omega (arith, x.room, x.few)), x.few)

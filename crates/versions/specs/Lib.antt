@@ -1,6 +1,7 @@
 pub mod Turns
 pub mod Refusals
 pub mod Cuts
+pub mod Processors
 pub mod Orders
 pub mod Versions
 pub mod Plain

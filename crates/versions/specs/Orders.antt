@@ -1,7 +1,6 @@
 -- The order of the active tasks as a list of processors, and the place of one in it.
-use Rattle.std.specs.Prelude.{◌≡◌, ℕ, suc, ◌<◌, ◌≤◌, cond, List, [], ◌∷◌, length, take, Some, None, Option, ◌==◌}
+use Rattle.std.specs.Prelude.{◌≡◌, ℕ, suc, ◌<◌, cond, List, [], ◌∷◌, Some, None, Option, ◌==◌}
 use Rattle.std.specs.Option.{option_map}
-use Rattle.versions.specs.declared.order.Order.{Order}
 
 -- the place of p, from 0
 abbrev pub place_in : List ℕ → ℕ → Option ℕ
@@ -12,12 +11,3 @@ place_in (q ∷ qs) p = cond (q == p) (Some 0) (option_map suc (place_in qs p))
 abbrev pub Apart : List ℕ → Type 0
 Apart [] = Unit {0}
 Apart (q ∷ qs) = (q < 4) × (place_in qs q ≡ None) × Apart qs
-
--- the processors with an active task, oldest first
-abbrev pub processors : Order → List ℕ
-processors o = take o.count o.list
-
-pub record Ordered (o : Order) : Type 0 where
-  pub room : length o.list ≡ 4
-  pub few : o.count ≤ 4
-  pub apart : Apart (processors o)

@@ -4,14 +4,18 @@
 
 mod order;
 mod play;
+mod processor;
 mod refusal;
 mod store;
+mod tasks;
 mod turn;
 mod version;
 
 pub use order::Order;
 pub use play::{AnswersFull, play_turn, play_turns, refusals_rise, worked_runs_hold};
+pub use processor::{Class, Processor};
 pub use refusal::{Answer, Refusal};
 pub use store::VersionStore;
+pub use tasks::TaskTable;
 pub use turn::Turn;
 pub use version::Version;

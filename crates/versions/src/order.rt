@@ -1,95 +1,95 @@
 // The order of the active tasks: at most four processors, oldest first, none twice.
 ghost use Rattle.std.specs.Prelude.{◌≡◌, ℕ, ◌<◌, ◌≤◌, [], ◌∷◌, ◌++◌, length, take, drop, None, slice_index};
-ghost use Rattle.versions.specs.Orders.{place_in, processors, Ordered};
+ghost use Rattle.versions.specs.Orders.{place_in, Apart};
 
-#[derive(Clone, Copy)]
+use crate::processor::Processor;
+use arrayvec::ArrayVec;
+use std::marker::Model;
+
+#[derive(Drop)]
 pub struct Order {
-    list: [u32; 4],
-    count: usize,
+    list: ArrayVec<Processor, 4>,
+}
+
+// A clause sees an order as its processors.
+impl Model for Order {
+    ghost use Rattle.std.specs.Prelude.{ℕ, List};
+
+    ghost Value = { List ℕ };
+
+    ghost use Rattle.versions.specs.Orders.{Apart};
+
+    ghost view = { λ o. o.list.items };
+
+    ghost invariant = { λ o. Apart o.list.items };
 }
 
 impl Order {
     // No task is active.
     pub fn new() -> Order
-        ensures order { processors result ≡ [] }
-        ensures kept { Ordered result }
+        ensures { result ≡ [] }
     {
         Order {
-            list: [0; 4],
-            count: 0,
+            list: ArrayVec::new(),
         }
     }
 
     // How many tasks are active.
     pub fn len(&self) -> usize
-        requires { Ordered self.now }
-        ensures value { result ≡ length (processors self.now) }
+        ensures value { result ≡ length self.now }
         ensures bound { result ≤ 4 }
+        ensures apart { Apart self.now }
     {
-        self.count
+        self.list.len()
+    }
+
+    // The processors, oldest task first.
+    pub fn processors(&self) -> &[Processor]
+        ensures value { result.now ≡ self.now }
+        ensures bound { length result.now ≤ 4 }
+        ensures apart { Apart self.now }
+    {
+        self.list.as_slice()
     }
 
     // The place of p, from 0 for the oldest.
     pub fn place(&self, p: u32) -> Option<usize>
-        requires { Ordered self.now }
-        ensures { result ≡ place_in (processors self.now) p }
+        ensures value { result ≡ place_in self.now p }
+        ensures apart { Apart self.now }
     {
-        place_in(&self.list[0..self.count], p)
+        self.processors().iter().position(|q| q.number() == p)
     }
 
     // The processor at a place.
-    pub fn at(&self, k: usize) -> u32
-        requires ordered { Ordered self.now }
-        requires k_in_bounds { k < length (processors self.now) }
-        ensures value { result ≡ slice_index (processors self.now) k }
-        ensures bound { result < 4 }
+    pub fn at(&self, k: usize) -> Processor
+        requires { k < length self.now }
+        ensures { result ≡ slice_index self.now k }
     {
-        self.list[k]
+        self.processors()[k]
     }
 
     // Adds p as the youngest.
-    pub fn append(&mut self, p: u32)
-        requires ordered { Ordered self.old }
-        requires p_bound { p < 4 }
-        requires p_value { place_in (processors self.old) p ≡ None }
-        ensures order { processors self.new ≡ processors self.old ++ p ∷ [] }
-        ensures kept { Ordered self.new }
+    pub fn append(&mut self, p: Processor)
+        requires { place_in self.old p ≡ None }
+        ensures { self.new ≡ self.old ++ p ∷ [] }
     {
-        self.list[self.count] = p;
-        self.count += 1;
+        let _ = p.number();
+        self.list.push(p);
     }
 
     // Keeps the k oldest.
     pub fn cut(&mut self, k: usize)
-        requires ordered { Ordered self.old }
-        requires k_in_bounds { k ≤ length (processors self.old) }
-        ensures order { processors self.new ≡ take k (processors self.old) }
-        ensures kept { Ordered self.new }
+        requires { k ≤ length self.old }
+        ensures { self.new ≡ take k self.old }
     {
-        self.count = k;
+        self.list.truncate(k);
     }
 
     // Removes the oldest.
     pub fn remove_first(&mut self)
-        requires ordered { Ordered self.old }
-        requires nonzero { 0 < length (processors self.old) }
-        ensures order { processors self.new ≡ drop 1 (processors self.old) }
-        ensures kept { Ordered self.new }
+        requires { 0 < length self.old }
+        ensures { self.new ≡ drop 1 self.old }
     {
-        let [_, b, c, d] = self.list;
-        self.list = [b, c, d, 0];
-        self.count -= 1;
+        let _ = self.list.remove(0);
     }
-}
-
-// The place of p in a row of processors.
-fn place_in(list: &[u32], p: u32) -> Option<usize>
-    ensures { result ≡ place_in list.now p }
-{
-    for (i, q) in list.iter().enumerate() {
-        if *q == p {
-            return Some(i);
-        }
-    }
-    None
 }

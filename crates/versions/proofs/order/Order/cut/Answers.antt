@@ -1,16 +1,7 @@
-use Rattle.std.proofs.Common.{◌≤◌, take, sym, subst, arith}
-use Rattle.std.proofs.lemmas.List.{take-take, length-take-le}
+use Rattle.std.proofs.Common.{sym, subst}
 use Rattle.versions.specs.Orders.{Apart}
 use Rattle.versions.proofs.Ordering.{apart-take}
 use Rattle.versions.proofs.order.Order.cut.Goals as goal
 
-pub returns : goal.returns
-returns c =
-    let o = c.args.self.now in
-    let k = c.args.k in
-    let within : k ≤ o.count = omega (arith, length-take-le o.count o.list (omega (arith, c.requires.ordered.room, c.requires.ordered.few))) in
-    let same = take-take k o.count o.list within in
-    record {
-      order = sym same;
-      kept = record { room = c.requires.ordered.room; few = omega (arith, c.requires.ordered.few); apart = subst Apart same (apart-take k (take o.count o.list) c.requires.ordered.apart) };
-    }
+pub invariant_of-self : goal.invariant_of-self
+invariant_of-self c = subst Apart (sym c.truncate.ensures.items) (apart-take c.args.k c.self.inside.list.items c.self.invariant)

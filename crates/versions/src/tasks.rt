@@ -1,0 +1,132 @@
+// The active tasks of a version store: their order, and each one's version at each address. What follows from those two
+// alone is written and proved here, once for every store that keeps them.
+ghost use Rattle.std.specs.Prelude.{◌≡◌, ℕ, List, map, drop};
+ghost use Rattle.versions.specs.Orders.{Apart};
+ghost use Rattle.versions.specs.Plain.{holds_class};
+ghost use Rattle.versions.specs.Tables.{Table, task_by, Fitting, HeldIn, active_place, access_place, squash_place, commit_place, replace_place};
+ghost use Rattle.versions.specs.Versions.{squashed_by};
+
+use crate::order::Order;
+use crate::processor::{Class, Processor};
+use crate::refusal::Refusal;
+use crate::version::Version;
+
+pub trait TaskTable {
+    // The processors with an active task, oldest first.
+    ghost processors: { Self → List ℕ };
+
+    // The version of each processor's task at each address.
+    ghost table: { Self → Table };
+
+    // What ties the versions to where they are kept.
+    ghost good: { Self → Type 0 };
+
+    // The order of the tasks.
+    fn order(&self) -> &Order
+        ensures { result.now ≡ processors self.now };
+
+    // p's version of a.
+    fn version(&self, p: Processor, a: u32) -> Version
+        requires { good self.now }
+        ensures { result ≡ table self.now p a };
+
+    // The address of class c that p holds.
+    fn held(&self, p: Processor, c: Class) -> Option<u32>
+        requires { good self.now }
+        ensures { HeldIn (table self.now p) c result };
+
+    // Whether p holds another address of a's class.
+    fn class_taken(&self, p: Processor, a: u32) -> bool
+        requires { good self.now }
+        ensures { (n : ℕ) → Fitting n (processors self.now) (table self.now) → result ≡ holds_class (task_by (table self.now) p) a n }
+    {
+        self.held(p, Class::of(a)).is_some_and(|b| b != a)
+    }
+
+    // How many of the tasks from place k on a store to a squashes: the oldest with a mark that no own word of a task
+    // between hides, and all after it.
+    fn squashed(&self, k: usize, a: u32) -> usize
+        requires { good self.now }
+        ensures { result ≡ squashed_by (map (λ q. table self.now q a) (drop k (processors self.now))) }
+    {
+        let n = self.order().len();
+        for i in k..n {
+            let version = self.version(self.order().at(i), a);
+            if version.mark {
+                return n - i;
+            }
+            if version.own.is_some() {
+                return 0;
+            }
+        }
+        0
+    }
+
+    // The place of p's task, unless p has none.
+    fn active(&self, p: Processor) -> Result<usize, Refusal>
+        ensures value { result ≡ active_place (processors self.now) p }
+        ensures apart { Apart (processors self.now) }
+    {
+        self.order().place(p.number()).ok_or(Refusal::NoTask)
+    }
+
+    // The place of p's task, unless p may not load or store at a, in a memory of n words.
+    fn access(&self, n: u32, p: Processor, a: u32) -> Result<usize, Refusal>
+        requires good { good self.now }
+        requires fitting { Fitting n (processors self.now) (table self.now) }
+        ensures value { result ≡ access_place n (processors self.now) (table self.now) p a }
+        ensures apart { Apart (processors self.now) }
+    {
+        let k = self.active(p)?;
+        if a >= n {
+            return Err(Refusal::NoAddress);
+        }
+        if self.class_taken(p, a) {
+            return Err(Refusal::ClassTaken);
+        }
+        Ok(k)
+    }
+
+    // The place of p's task, unless p may not be squashed.
+    fn squashable(&self, p: Processor) -> Result<usize, Refusal>
+        ensures value { result ≡ squash_place (processors self.now) p }
+        ensures apart { Apart (processors self.now) }
+    {
+        let k = self.active(p)?;
+        if k == 0 {
+            return Err(Refusal::IsHead);
+        }
+        Ok(k)
+    }
+
+    // The place of p's task, unless p may not commit.
+    fn committable(&self, p: Processor) -> Result<usize, Refusal>
+        ensures value { result ≡ commit_place (processors self.now) p }
+        ensures apart { Apart (processors self.now) }
+    {
+        let k = self.active(p)?;
+        if k != 0 {
+            return Err(Refusal::NotHead);
+        }
+        Ok(k)
+    }
+
+    // The place of p's task, unless p may not replace a, in a memory of n words.
+    fn replaceable(&self, n: u32, p: Processor, a: u32) -> Result<usize, Refusal>
+        requires { good self.now }
+        ensures value { result ≡ replace_place n (processors self.now) (table self.now) p a }
+        ensures apart { Apart (processors self.now) }
+    {
+        let k = self.active(p)?;
+        if a >= n {
+            return Err(Refusal::NoAddress);
+        }
+        if k != 0 {
+            return Err(Refusal::NotHead);
+        }
+        if !self.version(p, a).is_held() {
+            return Err(Refusal::NotHeld);
+        }
+        Ok(k)
+    }
+}
