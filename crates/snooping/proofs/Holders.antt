@@ -6,7 +6,7 @@ use Rattle.versions.specs.declared.version.Version.{Version}
 use Rattle.versions.specs.Orders.{place_in}
 use Rattle.versions.specs.Tables.{Table}
 use Rattle.versions.specs.Versions.{is_held, is_own, laid_over, seen_by, squashed_by}
-use Rattle.snooping.specs.Caches.{or_else, holder}
+use Rattle.snooping.specs.Grid.{or_else, holder}
 
 -- the first in line is at place 0, and the others one place further than in the rest
 pub first-place : (q : ℕ) (qs : List ℕ) → place_in (q ∷ qs) q ≡ Some 0

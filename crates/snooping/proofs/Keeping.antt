@@ -9,7 +9,7 @@ use Rattle.versions.specs.Orders.{place_in, Apart}
 use Rattle.versions.specs.Tables.{Table, with_version}
 use Rattle.versions.specs.Versions.{no_version, is_held, is_own, seen_by}
 use Rattle.snooping.specs.declared.line.Line.{Line}
-use Rattle.snooping.specs.Caches.{LineTable, table_by, with_line, holder, or_else}
+use Rattle.snooping.specs.Grid.{LineTable, table_by, with_line, holder, or_else}
 use Rattle.snooping.specs.Lines.{blank, version_in, version_at, with_next}
 use Rattle.versions.proofs.Classes.{unheld-none}
 use Rattle.versions.proofs.Tabling.{placed}

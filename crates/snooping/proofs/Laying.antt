@@ -15,7 +15,7 @@ use Rattle.snooping.specs.declared.cache.Cache.{Cache}
 use Rattle.snooping.specs.declared.line.Line.{Line}
 use Rattle.snooping.specs.declared.state.LineState.{LineState}
 use Rattle.snooping.specs.declared.state.LineState.TheVariants.{Invalid, Loaded, Stored, Both}
-use Rattle.snooping.specs.Caches.{LineTable, no_cache, line_in, Wide, table_by, first_that, holder}
+use Rattle.snooping.specs.Grid.{LineTable, no_cache, line_in, Wide, table_by, first_that, holder}
 use Rattle.snooping.specs.Layout.{of_class, held_in, next_holder, line_for, line_of, lines_of}
 use Rattle.snooping.specs.Lines.{blank, version_in}
 use Rattle.snooping.specs.States.{has_l, has_s, with_bits}

@@ -6,5 +6,3 @@ mod Ending
 mod Laying
 mod Watching
 mod Reporting
-mod Snooped
-mod Writing

@@ -8,7 +8,7 @@ use Rattle.versions.specs.Plain.{Task, Plain, is_on, task_on, column}
 use Rattle.versions.specs.Versions.{is_own, is_held, seen_by}
 use Rattle.snooping.specs.declared.cache.Cache.{Cache}
 use Rattle.snooping.specs.declared.line.Line.{Line}
-use Rattle.snooping.specs.Caches.{first_that}
+use Rattle.snooping.specs.Grid.{first_that}
 use Rattle.snooping.specs.Lines.{blank}
 use Rattle.snooping.specs.States.{with_bits}
 

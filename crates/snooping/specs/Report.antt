@@ -12,7 +12,7 @@ use Rattle.snooping.specs.declared.report.BusKind.TheVariants.{Quiet, BusRead, B
 use Rattle.snooping.specs.declared.report.BusReport.{BusReport}
 use Rattle.snooping.specs.declared.report.Supplier.{Supplier}
 use Rattle.snooping.specs.declared.report.Supplier.TheVariants.{Processor, Memory, Nobody}
-use Rattle.snooping.specs.Caches.{or_else}
+use Rattle.snooping.specs.Grid.{or_else}
 use Rattle.snooping.specs.Layout.{of_class}
 
 -- the numbers by which users know them

@@ -1,11 +1,10 @@
 // One processor's cache: 16 lines. Address a has line a mod 16.
-ghost use Rattle.std.specs.Prelude.{◌≡◌, ℕ, ◌%◌, ◌<◌, map, length, replicate, slice_index_or, slice_set};
-ghost use Rattle.versions.specs.Orders.{processors, Ordered};
-ghost use Rattle.snooping.specs.Lines.{blank, with_loaded, with_stored, with_next, ended, unlinked};
+ghost use Rattle.std.specs.Prelude.{◌≡◌, ◌%◌, map, replicate, slice_index_or, slice_set};
+ghost use Rattle.snooping.specs.Lines.{blank, version_at, with_loaded, with_stored, with_next, ended, unlinked};
 
 use crate::line::Line;
 use crate::state::LineEvent;
-use versions::Order;
+use versions::{Class, Order, Version};
 
 #[derive(Clone, Copy)]
 pub struct Cache {
@@ -23,11 +22,17 @@ impl Cache {
     }
 
     // Line c.
-    pub fn line(&self, c: usize) -> Line
-        requires { c < 16 }
+    pub fn line(&self, c: Class) -> Line
         ensures { result ≡ slice_index_or self.now.lines c blank }
     {
-        self.lines[c]
+        self.lines[c.index()]
+    }
+
+    // What the cache has of a.
+    pub fn version(&self, a: u32) -> Version
+        ensures { result ≡ version_at (slice_index_or self.now.lines (a % 16) blank) a }
+    {
+        self.line(Class::of(a)).version(a)
     }
 
     // Takes the word w of a load of a.
@@ -73,8 +78,7 @@ impl Cache {
 
     // Ends pointers to processors without a task.
     pub fn unlink(&mut self, order: &Order)
-        requires { Ordered order.now }
-        ensures { self.new.lines ≡ map (unlinked (processors order.now)) self.old.lines }
+        ensures { self.new.lines ≡ map (unlinked order.now) self.old.lines }
     {
         for line in self.lines.iter_mut() {
             line.unlink(order);

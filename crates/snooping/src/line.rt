@@ -1,7 +1,6 @@
 // One line of a processor's cache.
 ghost use Rattle.std.specs.Prelude.{◌≡◌, ℕ, not, ◌&&◌, is_some};
 ghost use Rattle.versions.specs.Versions.{is_own};
-ghost use Rattle.versions.specs.Orders.{processors, Ordered};
 ghost use Rattle.snooping.specs.Lines.{blank, version_at, with_loaded, with_stored, with_next, ended, unlinked};
 
 use crate::state::{LineEvent, LineState};
@@ -87,8 +86,7 @@ impl Line {
 
     // Ends a pointer to a processor that has no task.
     pub(crate) fn unlink(&mut self, order: &Order)
-        requires { Ordered order.now }
-        ensures { self.new ≡ unlinked (processors order.now) self.old }
+        ensures { self.new ≡ unlinked order.now self.old }
     {
         self.next = self.next.filter(|p| order.place(*p).is_some());
     }
