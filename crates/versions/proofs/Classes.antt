@@ -1,16 +1,17 @@
 -- A task by classes: it holds at most one address of each of the 16. Whether a class is taken, and how a commit that goes
 -- class by class writes and counts all own words.
-use Rattle.std.proofs.Common.{◌≡◌, ℕ, zero, suc, ◌+◌, ◌%◌, ◌<◌, ◌≤◌, Bool, true, false, cond, not, ◌&&◌, ◌||◌, eqb, ltb, ◌≢◌, List, length, get_or, set, is_some, Some, None, Option, MatchOption, unwrap_or, sym, refl, ap, ◌∙◌, subst, ⊎_elim, add-zero, arith}
+use Rattle.std.proofs.Common.{◌≡◌, ℕ, zero, suc, ◌+◌, ◌%◌, ◌<◌, ◌≤◌, Bool, true, false, cond, not, ◌&&◌, ◌||◌, eqb, ltb, ◌≢◌, List, length, get_or, set, is_some, Some, None, Option, MatchOption, unwrap_or, sym, refl, ap, ◌∙◌, subst, ⊎_elim, add-zero, add-one, arith}
 use Rattle.std.proofs.lemmas.List.{ext_get_or, length-set, get_or-set_same, get_or-set_other}
-use Rattle.std.proofs.lemmas.Bool.{eqb-true, eq-eqb, ne_eqb, cases_eq, cases_lt, lt-ltb, le-ltb, cond-true, cond-false, true≢false, or_left, or_right, or_parts}
+use Rattle.std.proofs.lemmas.Bool.{eqb-true, eq-eqb, ne_eqb, cases_eq, cases_lt, lt-ltb, le-ltb, cond-true, cond-false, true≢false, eqb-false, or_left, or_right, or_parts}
 use Rattle.std.proofs.lemmas.Bool.Decides.{nat_tests}
 use Rattle.memory.specs.Client.{count_below}
 use Rattle.versions.specs.declared.version.Version.{Version}
 use Rattle.versions.specs.Cuts.{any_below}
 use Rattle.versions.specs.Versions.{no_version, is_own, is_held, laid_over}
 use Rattle.versions.specs.Plain.{Task, holds_class, laid_over_all, written_to}
-use Rattle.versions.specs.Tables.{HeldIn, up_to_class, ClassWritten}
+use Rattle.versions.specs.Tables.{HeldIn, up_to_class, of_class, or_else, last_own, ClassWritten}
 use Rattle.versions.proofs.Holding.{length-laid_over_all, get_or-laid_over_all}
+use Rattle.versions.proofs.Ordering.{none-some}
 
 -- a version that is not held is none
 pub unheld-none : (v : Version) → is_held v ≡ false → v ≡ no_version
@@ -277,3 +278,82 @@ class-inside at c ws vs b before l d e =
 pub one_at_most : (n : ℕ) (t : Bool) → n ≡ cond t 1 0 → n ≤ 1
 one_at_most n true e = omega arith
 one_at_most n false e = omega arith
+
+-- what is known of the address of a class that passes a test
+pub held-some : (f : ℕ → Bool) (c n a : ℕ) → of_class f c n ≡ Some a → (a < n) × (f a ≡ true) × (a % 16 ≡ c)
+held-some f c zero a e = let z : ◌≡◌ {A = ℕ} 0 1 = cc in absurd (omega arith)
+held-some f c (suc n) a e = go (f n) (eqb (n % 16) c) refl refl e (λ g. held-some f c n a g)
+  where
+    go : (t u : Bool) → f n ≡ t → eqb (n % 16) c ≡ u → cond (t && u) (Some n) (of_class f c n) ≡ Some a → (of_class f c n ≡ Some a → (a < n) × (f a ≡ true) × (a % 16 ≡ c))
+        → (a < suc n) × (f a ≡ true) × (a % 16 ≡ c)
+    go true true h s g again =
+        let same : n ≡ a = cc in
+        (omega (arith, same), ap (λ (b : ℕ). f b) (sym same) ∙ h, ap (λ (b : ℕ). b % 16) (sym same) ∙ eqb-true (n % 16) c s)
+    go true false h s g again = let x = again g in (omega (arith, x.0), x.1, x.2)
+    go false u h s g again = let x = again g in (omega (arith, x.0), x.1, x.2)
+
+pub held_none : (f : ℕ → Bool) (c n : ℕ) → of_class f c n ≡ None → (b : ℕ) → b < n → b % 16 ≡ c → f b ≡ false
+held_none f c zero e b h class = absurd (omega arith)
+held_none f c (suc n) e b lim class = go (f n) (eqb (n % 16) c) refl refl e (λ g l. held_none f c n g b l class)
+  where
+    here : (t : Bool) → f n ≡ t → (t ≡ true → ⊥) → (b < n → f b ≡ false) → f b ≡ false
+    here true h ne again = absurd (ne refl)
+    here false h ne again = ⊎_elim (λ (l : b < n). again l) (λ (l : n ≤ b). let same : n ≡ b = omega (arith, lim) in ap (λ (r : ℕ). f r) (sym same) ∙ h) (cases_lt b n)
+
+    go : (t u : Bool) → f n ≡ t → eqb (n % 16) c ≡ u → cond (t && u) (Some n) (of_class f c n) ≡ None → (of_class f c n ≡ None → b < n → f b ≡ false) → f b ≡ false
+    go true true h s g again = absurd (none-some n g)
+    go true false h s g again =
+        ⊎_elim (λ (l : b < n). again g l)
+        (λ (l : n ≤ b). let same : n ≡ b = omega (arith, lim) in absurd (eqb-false (n % 16) c s (ap (λ (r : ℕ). r % 16) same ∙ class))) (cases_lt b n)
+    go false u h s g again = here false h (λ e. absurd (true≢false (sym e))) (again g)
+
+-- the last own word, one class further
+pub last_on : (at : ℕ → Version) (n c : ℕ) (o last later : Option ℕ) → o ≡ of_class (λ a. is_own (at a)) c n → last ≡ last_own at n c → later ≡ or_else o last → later ≡ last_own at n (c + 1)
+last_on at n c o last later o_is last-is later-is =
+    later-is ∙ (ap (λ (x : Option ℕ). or_else x last) o_is ∙ (ap (or_else (of_class (λ a. is_own (at a)) c n)) last-is ∙ ap (last_own at n) (sym (add-one c))))
+
+-- who holds b of class c, and no other of that class: the own word of the class is the one at b
+abbrev own_of : (ℕ → Version) → Option ℕ → Option ℕ
+own_of at None = None
+own_of at (Some b) = cond (is_own (at b)) (Some b) None
+
+module _ (at : ℕ → Version) (c n : ℕ) (one : (a b : ℕ) → is_held (at a) ≡ true → is_held (at b) ≡ true → a % 16 ≡ b % 16 → a ≡ b) where
+  own_held : (b : ℕ) → is_own (at b) ≡ true → is_held (at b) ≡ true
+  own_held b e = go (at b).mark
+    where
+      go : (t : Bool) → (t || is_own (at b)) ≡ true
+      go true = refl
+      go false = e
+
+  pub class-address : (o : Option ℕ) → HeldIn at c o → ((b : ℕ) → is_held (at b) ≡ true → b < n) → own_of at o ≡ of_class (λ a. is_own (at a)) c n
+  class-address None h inside = go (of_class (λ a. is_own (at a)) c n) refl
+    where
+      go : (x : Option ℕ) → of_class (λ a. is_own (at a)) c n ≡ x → None ≡ x
+      go None e = refl
+      go (Some a) e = let x = held-some (λ b. is_own (at b)) c n a e in absurd (true≢false (sym (own_held a x.1) ∙ h a x.2))
+  class-address (Some b) h inside = go (is_own (at b)) refl (of_class (λ a. is_own (at a)) c n) refl
+    where
+      go : (t : Bool) → is_own (at b) ≡ t → (x : Option ℕ) → of_class (λ a. is_own (at a)) c n ≡ x → cond t (Some b) None ≡ x
+      go true own None e = absurd (true≢false (sym own ∙ held_none (λ a. is_own (at a)) c n e b (inside b h.1) h.0))
+      go true own (Some a) e = let x = held-some (λ d. is_own (at d)) c n a e in ap Some (one b a h.1 (own_held a x.1) (h.0 ∙ sym x.2))
+      go false none None e = refl
+      go false none (Some a) e =
+          let x = held-some (λ d. is_own (at d)) c n a e in
+          let same : a ≡ b = one a b (own_held a x.1) h.1 (x.2 ∙ sym h.0) in
+          absurd (true≢false (sym x.1 ∙ (ap (λ d. is_own (at d)) same ∙ none)))
+
+  -- the held address of the class, with or without an own word
+  pub class-address-none : (b : ℕ) → HeldIn at c (Some b) → ((a : ℕ) → is_held (at a) ≡ true → a < n) → is_own (at b) ≡ false → None ≡ of_class (λ a. is_own (at a)) c n
+  class-address-none b h inside e = sym (ap (λ (t : Bool). cond t (Some b) None) e) ∙ class-address (Some b) h inside
+
+  pub class-address-some : (b : ℕ) → HeldIn at c (Some b) → ((a : ℕ) → is_held (at a) ≡ true → a < n) → is_own (at b) ≡ true → Some b ≡ of_class (λ a. is_own (at a)) c n
+  class-address-some b h inside e = sym (ap (λ (t : Bool). cond t (Some b) None) e) ∙ class-address (Some b) h inside
+
+-- whether one was written
+pub none_written : (n : ℕ) (t : Bool) → n ≡ cond t 1 0 → n ≡ 0 → t ≡ false
+none_written n true e z = absurd (omega (arith, e, z))
+none_written n false e z = refl
+
+pub one_written : (n : ℕ) (t : Bool) → n ≡ cond t 1 0 → (n ≡ 0 → ⊥) → t ≡ true
+one_written n true e z = refl
+one_written n false e z = absurd (z e)

@@ -1,10 +1,10 @@
 -- The versions that a store keeps, as a table by processor and address, and the plain state that a table stands for
 -- together with an order of processors.
-use Rattle.std.specs.Prelude.{◌≡◌, ℕ, ◌+◌, ◌%◌, ◌<◌, Bool, true, false, cond, not, ◌&&◌, leb, List, [], ◌∷◌, map, length, Some, None, Ok, Err, Option, Result, ◌==◌, nat_eq, nat_le, nat_lt}
+use Rattle.std.specs.Prelude.{◌≡◌, ℕ, zero, suc, ◌+◌, ◌%◌, ◌<◌, Bool, true, false, cond, not, ◌&&◌, leb, List, [], ◌∷◌, map, length, is_some, Some, None, Ok, Err, Option, Result, ◌==◌, nat_eq, nat_le, nat_lt}
 use Rattle.memory.specs.Client.{count_below}
 use Rattle.std.specs.Option.{ok_or}
 use Rattle.versions.specs.declared.refusal.Refusal.{Refusal}
-use Rattle.versions.specs.declared.refusal.Refusal.TheVariants.{NoProcessor, NoTask, NoAddress, ClassTaken, NotHead, IsHead, NotHeld}
+use Rattle.versions.specs.declared.refusal.Refusal.TheVariants.{NoProcessor, TaskActive, NoTask, NoAddress, ClassTaken, NotHead, IsHead, NotHeld}
 use Rattle.versions.specs.declared.version.Version.{Version}
 use Rattle.versions.specs.Orders.{place_in}
 use Rattle.versions.specs.Versions.{no_version, is_own, is_held}
@@ -56,6 +56,10 @@ abbrev pub unless : Result ℕ Refusal → (ℕ → Bool) → Refusal → Result
 unless (Ok k) test e = cond (test k) (Err e) (Ok k)
 unless (Err x) test e = Err x
 
+-- the place that a new task on p takes, the number of active tasks
+abbrev pub start_place : List ℕ → ℕ → Result ℕ Refusal
+start_place ps p = cond (is_some (place_in ps p)) (Err TaskActive) (Ok (length ps))
+
 -- the place of p's task for a load or store of a, a squash, a commit and a replacement of a, each by its conditions
 abbrev pub access_place : ℕ → List ℕ → Table → ℕ → ℕ → Result ℕ Refusal
 access_place n ps table p a =
@@ -74,6 +78,21 @@ replace_place n ps table p a =
 -- a task's versions of the classes below c
 abbrev pub up_to_class : (ℕ → Version) → ℕ → ℕ → Version
 up_to_class at c a = cond (nat_lt (a % 16) c) (at a) no_version
+
+-- the address below n of class c that passes a test, if there is one: the highest
+abbrev pub of_class : (ℕ → Bool) → ℕ → ℕ → Option ℕ
+of_class f c zero = None
+of_class f c (suc n) = cond (f n && n % 16 == c) (Some n) (of_class f c n)
+
+-- the first of two, if there is one, else the second
+abbrev pub or_else : {A : Type 0} → Option A → Option A → Option A
+or_else (Some x) other = Some x
+or_else None other = other
+
+-- of the own words below n, the address of the one with the highest class below c
+abbrev pub last_own : (ℕ → Version) → ℕ → ℕ → Option ℕ
+last_own at n zero = None
+last_own at n (suc c) = or_else (of_class (λ a. is_own (at a)) c n) (last_own at n c)
 
 -- class c is written over what the classes below c made of the words ws: vs are the words then, and n own words were written
 pub record ClassWritten (at : ℕ → Version) (c : ℕ) (ws vs : List ℕ) (n : ℕ) : Type 0 where

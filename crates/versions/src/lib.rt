@@ -10,6 +10,7 @@ mod store;
 mod tasks;
 mod turn;
 mod version;
+mod written;
 
 pub use order::Order;
 pub use play::{AnswersFull, play_turn, play_turns, refusals_rise, worked_runs_hold};
@@ -19,3 +20,4 @@ pub use store::VersionStore;
 pub use tasks::TaskTable;
 pub use turn::Turn;
 pub use version::Version;
+pub use written::{WrittenBack, write_back, write_own};

@@ -21,6 +21,7 @@ pub fn play_turn<S: VersionStore>(store: &mut S, turn: Turn) -> Answer
     ensures answer { result ≡ answer_of (S.VersionStore.plain store.old) turn }
     ensures after { S.VersionStore.plain store.new ≡ state_after (S.VersionStore.plain store.old) turn }
     ensures sequential { ReadsOn (S.VersionStore.plain store.old) (event_of turn result ∷ []) (S.VersionStore.plain store.new) }
+    ensures shows { S.VersionStore.shows store.old turn store.new }
     ensures beside { S.VersionStore.spare store.new ≡ S.VersionStore.spare store.old }
     ensures kept { S.VersionStore.sound store.new }
 {
@@ -41,27 +42,13 @@ pub fn play_turns<S: VersionStore>(
     ensures beside { S.VersionStore.spare store.new ≡ S.VersionStore.spare store.old }
     ensures kept { S.VersionStore.sound store.new }
 {
-    let n = turns.len().min(answers.len());
-    play_first(store, turns, answers, n);
-    if n < turns.len() {
-        return Err(AnswersFull { at: n });
+    for (i, turn) in turns.iter().enumerate() {
+        if i >= answers.len() {
+            return Err(AnswersFull { at: i });
+        }
+        answers[i] = store.take_turn(*turn);
     }
     Ok(())
-}
-
-// Plays the first n turns, for which there are places.
-fn play_first<S: VersionStore>(store: &mut S, turns: &[Turn], answers: &mut [Answer], n: usize)
-    requires sound { S.VersionStore.sound store.old }
-    requires n_value { n ≡ turns_played turns.now answers.old }
-    ensures answers { answers.new ≡ answers_of (S.VersionStore.plain store.old) (take n turns.now) ++ drop n answers.old }
-    ensures after { S.VersionStore.plain store.new ≡ state_after_all (S.VersionStore.plain store.old) (take n turns.now) }
-    ensures sequential { ReadsOn (S.VersionStore.plain store.old) (paired turns.now answers.new) (S.VersionStore.plain store.new) }
-    ensures beside { S.VersionStore.spare store.new ≡ S.VersionStore.spare store.old }
-    ensures kept { S.VersionStore.sound store.new }
-{
-    for i in 0..n {
-        answers[i] = store.take_turn(turns[i]);
-    }
 }
 
 // The worked runs hold of the plain store.

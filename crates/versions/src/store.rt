@@ -1,8 +1,9 @@
 // What a version store is: anything that answers every turn as the plain store of specs/Plain.antt does. Whatever is
 // built above is proved once, against these contracts, and holds for every version store over every memory.
 ghost use Rattle.std.specs.Prelude.{◌≡◌, ℕ, List, length};
+ghost use Rattle.versions.specs.declared.turn.Turn.{Turn};
 ghost use Rattle.versions.specs.declared.turn.Turn.TheVariants.{Start, Load, Store, Squash, Commit, Replace};
-ghost use Rattle.versions.specs.Plain.{Plain, memory_words, active_tasks, answer_of, state_after, word_of};
+ghost use Rattle.versions.specs.Plain.{Plain, opened, memory_words, active_tasks, answer_of, state_after, word_of};
 
 use crate::refusal::{Answer, Refusal};
 use crate::turn::Turn;
@@ -21,11 +22,26 @@ pub trait VersionStore: Sized {
     // Bytes of the memory's supplied row that belong to no word. No call changes them.
     ghost spare: { Self → List ℕ };
 
+    // What a store shows of itself when it was opened, and of a turn, beyond the plain store: nothing, or its lines and what
+    // its bus reports.
+    ghost opens: { Self → Type 0 };
+
+    ghost shows: { Self → Turn → Self → Type 0 };
+
+    // A store over a memory that is open. No task is active.
+    fn open(memory: Self::Below) -> Self
+        requires { Self.Below.Memory.sound memory }
+        ensures plain { plain result ≡ opened (Self.Below.Memory.words memory) }
+        ensures opens { opens result }
+        ensures beside { spare result ≡ Self.Below.Memory.spare memory }
+        ensures kept { sound result };
+
     // Plays one turn.
     fn take_turn(&mut self, turn: Turn) -> Answer
         requires { sound self.old }
         ensures answer { result ≡ answer_of (plain self.old) turn }
         ensures after { plain self.new ≡ state_after (plain self.old) turn }
+        ensures shows { shows self.old turn self.new }
         ensures beside { spare self.new ≡ spare self.old }
         ensures kept { sound self.new };
 
@@ -59,6 +75,7 @@ pub trait VersionStore: Sized {
         requires { sound self.old }
         ensures answer { result ≡ answer_of (plain self.old) (Start p) }
         ensures after { plain self.new ≡ state_after (plain self.old) (Start p) }
+        ensures shows { shows self.old (Start p) self.new }
         ensures beside { spare self.new ≡ spare self.old }
         ensures kept { sound self.new }
     {
@@ -70,6 +87,7 @@ pub trait VersionStore: Sized {
         requires { sound self.old }
         ensures answer { result ≡ answer_of (plain self.old) (Load p a) }
         ensures after { plain self.new ≡ state_after (plain self.old) (Load p a) }
+        ensures shows { shows self.old (Load p a) self.new }
         ensures beside { spare self.new ≡ spare self.old }
         ensures kept { sound self.new }
     {
@@ -81,6 +99,7 @@ pub trait VersionStore: Sized {
         requires { sound self.old }
         ensures answer { result ≡ answer_of (plain self.old) (Store p a w) }
         ensures after { plain self.new ≡ state_after (plain self.old) (Store p a w) }
+        ensures shows { shows self.old (Store p a w) self.new }
         ensures beside { spare self.new ≡ spare self.old }
         ensures kept { sound self.new }
     {
@@ -92,6 +111,7 @@ pub trait VersionStore: Sized {
         requires { sound self.old }
         ensures answer { result ≡ answer_of (plain self.old) (Squash p) }
         ensures after { plain self.new ≡ state_after (plain self.old) (Squash p) }
+        ensures shows { shows self.old (Squash p) self.new }
         ensures beside { spare self.new ≡ spare self.old }
         ensures kept { sound self.new }
     {
@@ -103,6 +123,7 @@ pub trait VersionStore: Sized {
         requires { sound self.old }
         ensures answer { result ≡ answer_of (plain self.old) (Commit p) }
         ensures after { plain self.new ≡ state_after (plain self.old) (Commit p) }
+        ensures shows { shows self.old (Commit p) self.new }
         ensures beside { spare self.new ≡ spare self.old }
         ensures kept { sound self.new }
     {
@@ -115,6 +136,7 @@ pub trait VersionStore: Sized {
         requires { sound self.old }
         ensures answer { result ≡ answer_of (plain self.old) (Replace p a) }
         ensures after { plain self.new ≡ state_after (plain self.old) (Replace p a) }
+        ensures shows { shows self.old (Replace p a) self.new }
         ensures beside { spare self.new ≡ spare self.old }
         ensures kept { sound self.new }
     {

@@ -1,9 +1,9 @@
 // The active tasks of a version store: their order, and each one's version at each address. What follows from those two
 // alone is written and proved here, once for every store that keeps them.
-ghost use Rattle.std.specs.Prelude.{◌≡◌, ℕ, List, map, drop};
+ghost use Rattle.std.specs.Prelude.{◌≡◌, ℕ, ◌≤◌, List, map, drop, IfOk};
 ghost use Rattle.versions.specs.Orders.{Apart};
 ghost use Rattle.versions.specs.Plain.{holds_class};
-ghost use Rattle.versions.specs.Tables.{Table, task_by, Fitting, HeldIn, active_place, access_place, squash_place, commit_place, replace_place};
+ghost use Rattle.versions.specs.Tables.{Table, task_by, Fitting, HeldIn, start_place, active_place, access_place, squash_place, commit_place, replace_place};
 ghost use Rattle.versions.specs.Versions.{squashed_by};
 
 use crate::order::Order;
@@ -62,6 +62,18 @@ pub trait TaskTable {
         0
     }
 
+    // The place that a new task on p takes, unless p has one already.
+    fn startable(&self, p: Processor) -> Result<usize, Refusal>
+        ensures value { result ≡ start_place (processors self.now) p }
+        ensures bound { IfOk result (λ k. k ≤ 4) }
+        ensures apart { Apart (processors self.now) }
+    {
+        if self.order().place(p.number()).is_some() {
+            return Err(Refusal::TaskActive);
+        }
+        Ok(self.order().len())
+    }
+
     // The place of p's task, unless p has none.
     fn active(&self, p: Processor) -> Result<usize, Refusal>
         ensures value { result ≡ active_place (processors self.now) p }
@@ -92,11 +104,10 @@ pub trait TaskTable {
         ensures value { result ≡ squash_place (processors self.now) p }
         ensures apart { Apart (processors self.now) }
     {
-        let k = self.active(p)?;
-        if k == 0 {
-            return Err(Refusal::IsHead);
+        match self.active(p)? {
+            0 => Err(Refusal::IsHead),
+            k => Ok(k),
         }
-        Ok(k)
     }
 
     // The place of p's task, unless p may not commit.
@@ -104,11 +115,10 @@ pub trait TaskTable {
         ensures value { result ≡ commit_place (processors self.now) p }
         ensures apart { Apart (processors self.now) }
     {
-        let k = self.active(p)?;
-        if k != 0 {
-            return Err(Refusal::NotHead);
+        match self.active(p)? {
+            0 => Ok(0),
+            _ => Err(Refusal::NotHead),
         }
-        Ok(k)
     }
 
     // The place of p's task, unless p may not replace a, in a memory of n words.

@@ -11,6 +11,7 @@ returns g c =
       after = c.take_turn.ensures.after;
       sequential = reads_on (m.plain c.args.store.now) (event_of c.args.turn c.take_turn.result ∷ []) (m.plain c.take_turn.new.self)
           (c.take_turn.ensures.answer, sym c.take_turn.ensures.after);
+      shows = c.take_turn.ensures.shows;
       beside = c.take_turn.ensures.beside;
       kept = c.take_turn.ensures.kept;
     }

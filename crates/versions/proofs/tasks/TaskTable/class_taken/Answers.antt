@@ -1,4 +1,4 @@
-use Rattle.std.proofs.Common.{rules, tests, ◌%◌, Option, subst, ◌∙◌}
+use Rattle.std.proofs.Common.{rules, tests, subst, ◌∙◌}
 use Rattle.versions.specs.Tables.{task_by, HeldIn}
 use Rattle.versions.proofs.Classes.{taken-test, class-taken}
 use Rattle.versions.proofs.tasks.TaskTable.class_taken.Goals as goal

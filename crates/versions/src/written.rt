@@ -1,0 +1,99 @@
+// Writing own words of a task to memory.
+ghost use Rattle.std.specs.Prelude.{◌≡◌, ℕ, ◌+◌, ◌<◌, List, length, is_some, if◌then◌else◌};
+ghost use Rattle.memory.specs.Client.{count_below};
+ghost use Rattle.versions.specs.Plain.{laid_over_all, written_to};
+ghost use Rattle.versions.specs.Tables.{Fitting, up_to_class, of_class, or_else, last_own, ClassWritten};
+ghost use Rattle.versions.specs.Versions.{is_own};
+
+use crate::processor::{Class, Processor};
+use crate::tasks::TaskTable;
+use memory::Memory;
+
+// What a commit wrote.
+#[derive(Clone, Copy)]
+pub struct WrittenBack {
+    // How many own words.
+    pub words: u32,
+    // The address of the last of them.
+    pub last: Option<u32>,
+}
+
+impl WrittenBack {
+    // With the own word at an address, if there was one.
+    fn and(self, address: Option<u32>) -> WrittenBack
+        requires { self.words < 16 }
+        ensures count { result.words ≡ self.words + (if is_some address then 1 else 0) }
+        ensures last { result.last ≡ or_else address self.last }
+    {
+        match address {
+            Some(_) => WrittenBack {
+                words: self.words + 1,
+                last: address,
+            },
+            None => self,
+        }
+    }
+}
+
+// Writes an own word of address a to memory, if there is one, and gives how many it wrote.
+pub fn write_own<M: Memory>(memory: &mut M, a: u32, own: Option<u32>) -> u32
+    requires sound { M.Memory.sound memory.old }
+    requires a_in_bounds { a < length (M.Memory.words memory.old) }
+    ensures count { result ≡ (if is_some own then 1 else 0) }
+    ensures words { M.Memory.words memory.new ≡ written_to own a (M.Memory.words memory.old) }
+    ensures beside { M.Memory.spare memory.new ≡ M.Memory.spare memory.old }
+    ensures kept { M.Memory.sound memory.new }
+{
+    match own {
+        // Never refused: a is an address of the memory.
+        Some(w) => {
+            let _ = memory.write(a, w);
+            1
+        }
+        None => 0,
+    }
+}
+
+// Writes the own words of p's task to memory, class by class.
+pub fn write_back<M: Memory, T: TaskTable>(memory: &mut M, tasks: &T, p: Processor) -> WrittenBack
+    requires sound { M.Memory.sound memory.old }
+    requires good { T.TaskTable.good tasks.now }
+    requires fitting { Fitting (length (M.Memory.words memory.old)) (T.TaskTable.processors tasks.now) (T.TaskTable.table tasks.now) }
+    ensures count { result.words ≡ count_below (λ a. is_own (T.TaskTable.table tasks.now p a)) (length (M.Memory.words memory.old)) }
+    ensures last { result.last ≡ last_own (T.TaskTable.table tasks.now p) (length (M.Memory.words memory.old)) 16 }
+    ensures words { M.Memory.words memory.new ≡ laid_over_all (T.TaskTable.table tasks.now p) (M.Memory.words memory.old) }
+    ensures beside { M.Memory.spare memory.new ≡ M.Memory.spare memory.old }
+    ensures kept { M.Memory.sound memory.new }
+{
+    let mut wrote = WrittenBack {
+        words: 0,
+        last: None,
+    };
+    for c in 0..16 {
+        wrote = wrote.and(write_class(memory, tasks, p, Class::of(c)));
+    }
+    wrote
+}
+
+// Writes the own word that p's task has of class c to memory, if it has one, and gives its address. What the classes
+// before c have written is in memory already.
+fn write_class<M: Memory, T: TaskTable>(
+    memory: &mut M,
+    tasks: &T,
+    p: Processor,
+    c: Class,
+) -> Option<u32>
+    requires sound { M.Memory.sound memory.old }
+    requires good { T.TaskTable.good tasks.now }
+    requires fitting { Fitting (length (M.Memory.words memory.old)) (T.TaskTable.processors tasks.now) (T.TaskTable.table tasks.now) }
+    ensures class { (ws : List ℕ) → M.Memory.words memory.old ≡ laid_over_all (up_to_class (T.TaskTable.table tasks.now p) c) ws → ClassWritten (T.TaskTable.table tasks.now p) c ws (M.Memory.words memory.new) (if is_some result then 1 else 0) }
+    ensures address { result ≡ of_class (λ a. is_own (T.TaskTable.table tasks.now p a)) c (length (M.Memory.words memory.old)) }
+    ensures size { length (M.Memory.words memory.new) ≡ length (M.Memory.words memory.old) }
+    ensures beside { M.Memory.spare memory.new ≡ M.Memory.spare memory.old }
+    ensures kept { M.Memory.sound memory.new }
+{
+    let a = tasks.held(p, c)?;
+    let own = tasks.version(p, a).own;
+    let wrote = write_own(memory, a, own);
+    if wrote == 0 { None } else { Some(a) }
+}
