@@ -6,3 +6,4 @@ mod Ending
 mod Laying
 mod Watching
 mod Reporting
+mod Snooped

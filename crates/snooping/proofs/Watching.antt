@@ -5,7 +5,8 @@ use Rattle.std.proofs.lemmas.List.{drop_more, reverse-append, length-reverse, ge
 use Rattle.std.proofs.Math.Pow.{pow_mono}
 use Rattle.versions.specs.declared.version.Version.{Version}
 use Rattle.versions.specs.Versions.{is_own}
-use Rattle.snooping.specs.Grid.{last_that, or_else}
+use Rattle.versions.specs.Tables.{or_else}
+use Rattle.snooping.specs.Grid.{last_that}
 use Rattle.snooping.specs.Report.{reached, powers}
 
 find_push : (f : ℕ → Bool) (xs : List ℕ) (x : ℕ) → find f (xs ++ x ∷ []) ≡ or_else (find f xs) (cond (f x) (Some x) None)

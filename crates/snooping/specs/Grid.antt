@@ -1,7 +1,8 @@
 -- The four caches as a table of lines by processor and line number, and what happens to the table.
 use Rattle.std.specs.Prelude.{◌≡◌, ℕ, ◌%◌, ◌<◌, Bool, true, cond, ◌&&◌, List, [], ◌∷◌, length, get_or, is_some, Some, None, Option, ◌==◌, slice_index_or}
+use Rattle.std.specs.List.{find}
 use Rattle.versions.specs.Orders.{place_in}
-use Rattle.versions.specs.Tables.{Table}
+use Rattle.versions.specs.Tables.{Table, or_else}
 use Rattle.versions.specs.Versions.{is_held}
 use Rattle.snooping.specs.declared.cache.Cache.{Cache}
 use Rattle.snooping.specs.declared.line.Line.{Line}
@@ -37,22 +38,14 @@ with_line ls p c x q d = cond (q == p && d == c) x (ls q d)
 abbrev pub with_cache : LineTable → ℕ → (Line → Line) → LineTable
 with_cache ls p f q d = cond (q == p) (f (ls q d)) (ls q d)
 
--- the first of some that passes a test, and the last
-abbrev pub first_that : {A : Type 0} → (A → Bool) → List A → Option A
-first_that f [] = None
-first_that f (x ∷ xs) = cond (f x) (Some x) (first_that f xs)
-
-abbrev pub or_else : {A : Type 0} → Option A → Option A → Option A
-or_else (Some x) other = Some x
-or_else None other = other
-
+-- the last of some that passes a test
 abbrev pub last_that : {A : Type 0} → (A → Bool) → List A → Option A
 last_that f [] = None
 last_that f (x ∷ xs) = or_else (last_that f xs) (cond (f x) (Some x) None)
 
 -- the first of some processors that holds a
 abbrev pub holder : Table → ℕ → List ℕ → Option ℕ
-holder table a qs = first_that (λ q. is_held (table q a)) qs
+holder table a qs = find (λ q. is_held (table q a)) qs
 
 -- the lines of a of some processors point each to the next
 abbrev pub linked : LineTable → ℕ → ℕ → Option ℕ → LineTable

@@ -4,3 +4,4 @@ pub mod Grid
 pub mod Caches
 pub mod Layout
 pub mod Report
+pub mod Snooping

@@ -6,9 +6,9 @@ mod caches;
 mod line;
 mod report;
 mod state;
-//mod store;
+mod store;
 
 pub use line::Line;
 pub use report::{BusKind, BusReport, Supplier};
 pub use state::LineState;
-//pub use store::SnoopingStore;
+pub use store::SnoopingStore;

@@ -1,6 +1,8 @@
 // What the bus tells of the latest accepted turn.
-ghost use Rattle.std.specs.Prelude.{◌≡◌, ℕ, ◌^◌, ◌<◌, ◌≤◌};
-ghost use Rattle.snooping.specs.Report.{kind_number, supplier_number, quiet, bus_read, bus_write, supplied_by, written_last};
+ghost use Rattle.std.specs.Prelude.{◌≡◌};
+ghost use Rattle.snooping.specs.Report.{kind_number, supplier_number, quiet, bus_read, bus_write, written_last};
+
+use versions::WrittenBack;
 
 #[derive(Clone, Copy, PartialEq, Debug)]
 pub enum BusKind {
@@ -43,18 +45,6 @@ impl Supplier {
             Supplier::Processor { p } => p,
             Supplier::Memory => 4,
             Supplier::Nobody => 5,
-        }
-    }
-}
-
-// The supplier of a bus read: the processor that has the nearest earlier version, else the memory.
-impl From<Option<u32>> for Supplier {
-    ghost from_gives = { λ nearest r. r ≡ supplied_by nearest };
-
-    fn from(nearest: Option<u32>) -> Supplier {
-        match nearest {
-            Some(p) => Supplier::Processor { p },
-            None => Supplier::Memory,
         }
     }
 }
@@ -109,27 +99,18 @@ impl BusReport {
         }
     }
 
-    // So many words written back, the last one at an address, if there was one.
-    pub(crate) fn written_back(last: Option<u32>, written: u32) -> BusReport
-        ensures { result ≡ written_last last written }
+    // Words written back, if there were any.
+    pub(crate) fn written_back(wrote: WrittenBack) -> BusReport
+        ensures { result ≡ written_last wrote.last wrote.words }
     {
-        match last {
+        match wrote.last {
             Some(a) => BusReport {
                 kind: BusKind::BusWback,
                 address: a,
-                written,
+                written: wrote.words,
                 ..BusReport::quiet()
             },
             None => BusReport::quiet(),
         }
     }
-}
-
-// 2 to the power p.
-pub(crate) fn power(p: u32) -> u32
-    requires { p < 4 }
-    ensures value { result ≡ 2 ^ p }
-    ensures bound { result ≤ 8 }
-{
-    1 << p
 }

@@ -1,4 +1,4 @@
-use Rattle.std.proofs.Common.{◌≡◌, ◌+◌, ◌-◌, ◌<◌, ◌∷◌, [], ◌++◌, length, get_or, drop, set, Some, Option, ℕ, sym, refl, ap, ◌∙◌, subst, arith}
+use Rattle.std.proofs.Common.{◌≡◌, ◌+◌, ◌-◌, ◌%◌, ◌<◌, ◌∷◌, [], ◌++◌, length, get_or, drop, set, Some, Option, ℕ, sym, refl, ap, ◌∙◌, subst, arith}
 use Rattle.std.proofs.lemmas.List.{length_push, length-reverse, set-get_or}
 use Rattle.std.proofs.lemmas.Iterator.Adapters.{YieldsList-from_rev_slice}
 use Rattle.std.proofs.lemmas.Iterator.Consumers.{YieldsList-turn, YieldsList-end}
@@ -62,7 +62,17 @@ loop-p-preserved c =
     }
 
 pub invariant_of-self : goal.invariant_of-self
-invariant_of-self c = ?
+invariant_of-self c =
+    let s = c.args.self.now in
+    let i = c.loop-p.invariant in
+    let over = YieldsList-end (YieldsList-from_rev_slice (processors_of s) cc) c.loop-p.yielded _ c.loop-p.yielded_by _ _ c.in-None.is c.next.ensures.steps in
+    let none : length (processors_of s) - length c.loop-p.yielded ≡ 0 = omega (arith, over.1, length-reverse (processors_of s)) in
+    let lines : line_in c.loop-p.self.1.0 ≡ relinked (processors_of s) c.args.a (lines_in s) = i.lines ∙ ap (λ (j : ℕ). relinked (drop j (processors_of s)) c.args.a (lines_in s)) none in
+    record { wide = i.wide; tagged = subst Tagged (sym lines) (tagged-relinked (processors_of s) c.args.a (lines_in s) s.tagged) }
 
 pub returns-clause-lines : goal.returns-clause-lines
-returns-clause-lines c = ?
+returns-clause-lines c =
+    let s = c.args.self.now in
+    let over = YieldsList-end (YieldsList-from_rev_slice (processors_of s) cc) c.loop-p.yielded _ c.loop-p.yielded_by _ _ c.in-None.is c.next.ensures.steps in
+    let none : length (processors_of s) - length c.loop-p.yielded ≡ 0 = omega (arith, over.1, length-reverse (processors_of s)) in
+    c.loop-p.invariant.lines ∙ ap (λ (j : ℕ). relinked (drop j (processors_of s)) c.args.a (lines_in s)) none

@@ -1,0 +1,224 @@
+// The snooping store: four private caches over any memory, kept in order by a bus. Every refusal is decided before the
+// first line, word or report changes.
+ghost use Rattle.std.specs.Prelude.{◌≡◌, ◌%◌, ◌<◌, ◌≤◌, length, take, Ok, slice_index};
+ghost use Rattle.versions.specs.declared.turn.Turn.TheVariants.{Start, Load, Store, Squash, Commit, Replace};
+ghost use Rattle.versions.specs.Plain.{word_of};
+ghost use Rattle.versions.specs.Versions.{is_own};
+ghost use Rattle.snooping.specs.Caches.{lines_in, table_of, processors_of};
+ghost use Rattle.snooping.specs.Grid.{last_that};
+ghost use Rattle.snooping.specs.Report.{quiet, supplied_by};
+ghost use Rattle.snooping.specs.Snooping.{plain_in, SoundSnooping, Took, Shown, line_answer, supplied_word};
+
+use crate::caches::Caches;
+use crate::line::Line;
+use crate::report::{BusReport, Supplier};
+use memory::Memory;
+use versions::{
+    Answer, Class, Processor, Refusal, TaskTable, Turn, VersionStore, WrittenBack, write_back,
+    write_own,
+};
+
+pub struct SnoopingStore<M> {
+    memory: M,
+    caches: Caches,
+    report: BusReport,
+}
+
+impl<M: Memory> SnoopingStore<M> {
+    // Line c of processor p, if there is such a line.
+    pub fn line(&self, p: u32, c: u32) -> Option<Line>
+        requires { SoundSnooping M.Memory.words M.Memory.sound self.now }
+        ensures { result ≡ line_answer (plain_in M.Memory.words self.now) p c }
+    {
+        let p = Processor::try_from(p).ok()?;
+        let c = Class::with(c)?;
+        Some(self.caches.line(p, c))
+    }
+
+    // What the bus reports of the latest accepted turn.
+    pub fn report(&self) -> BusReport
+        ensures { result ≡ self.now.report }
+    {
+        self.report
+    }
+
+    // The word at a for the task at place k from its supplier, and who that is: the cache of the processor that has the
+    // nearest earlier version, else the memory.
+    fn supplied(&mut self, k: usize, a: u32) -> Result<(u32, Supplier), Refusal>
+        requires sound { M.Memory.sound self.old.memory }
+        requires k_in_bounds { k ≤ length (processors_of self.old.caches) }
+        requires a_in_bounds { a < length (M.Memory.words self.old.memory) }
+        ensures answer { let nearest = last_that (λ q. is_own (table_of self.old.caches q a)) (take k (processors_of self.old.caches)) in result ≡ Ok (supplied_word (lines_in self.old.caches) (a % 16) (slice_index (M.Memory.words self.old.memory) a) nearest, supplied_by nearest) }
+        ensures words { M.Memory.words self.new.memory ≡ M.Memory.words self.old.memory }
+        ensures caches { self.new.caches ≡ self.old.caches }
+        ensures report { self.new.report ≡ self.old.report }
+        ensures beside { M.Memory.spare self.new.memory ≡ M.Memory.spare self.old.memory }
+        ensures kept { M.Memory.sound self.new.memory }
+    {
+        match self.caches.nearest(k, a) {
+            Some(q) => {
+                let word = self.caches.line(q, Class::of(a)).word;
+                Ok((word, Supplier::Processor { p: q.number() }))
+            }
+            None => Ok((self.memory.read(a)?, Supplier::Memory)),
+        }
+    }
+
+    // Starts a task.
+    fn begin(&mut self, p: Processor) -> Answer
+        requires { SoundSnooping M.Memory.words M.Memory.sound self.old }
+        ensures { Took M.Memory.words M.Memory.sound M.Memory.spare self.old (Start p) result self.new }
+    {
+        // A processor's number is below 4.
+        let _ = p.number();
+        let active = self.caches.startable(p)?;
+        self.caches.append(p);
+        self.report = BusReport::quiet();
+        Ok(active as u32)
+    }
+
+    // Loads.
+    fn fetch(&mut self, p: Processor, a: u32) -> Answer
+        requires { SoundSnooping M.Memory.words M.Memory.sound self.old }
+        ensures { Took M.Memory.words M.Memory.sound M.Memory.spare self.old (Load p a) result self.new }
+    {
+        let k = self.caches.access(self.memory.size(), p, a)?;
+        let line = self.caches.line(p, Class::of(a));
+        // A hit alters no line.
+        if line.version(a).is_held() {
+            self.report = BusReport::quiet();
+            return Ok(line.word);
+        }
+        let (w, supplier) = self.supplied(k, a)?;
+        self.caches.fill(p, a, w);
+        self.report = BusReport::bus_read(a, supplier);
+        Ok(w)
+    }
+
+    // Stores.
+    fn put(&mut self, p: Processor, a: u32, w: u32) -> Answer
+        requires { SoundSnooping M.Memory.words M.Memory.sound self.old }
+        ensures { Took M.Memory.words M.Memory.sound M.Memory.spare self.old (Store p a w) result self.new }
+    {
+        let k = self.caches.access(self.memory.size(), p, a)?;
+        let line = self.caches.line(p, Class::of(a));
+        if line.takes_store(a) {
+            self.caches.store_line(p, a, w);
+            self.report = BusReport::quiet();
+            return Ok(0);
+        }
+        // The invalidations go out before the tasks that they squash are gone.
+        let mask = self.caches.invalidated(k + 1, a);
+        let hit = self.caches.squashed(k + 1, a);
+        self.caches.cut_last(hit);
+        self.caches.write(p, a, w);
+        self.report = BusReport::bus_write(a, mask);
+        Ok(hit as u32)
+    }
+
+    // Squashes.
+    fn cut(&mut self, p: Processor) -> Answer
+        requires { SoundSnooping M.Memory.words M.Memory.sound self.old }
+        ensures { Took M.Memory.words M.Memory.sound M.Memory.spare self.old (Squash p) result self.new }
+    {
+        let k = self.caches.squashable(p)?;
+        let active = self.caches.order().len();
+        self.caches.cut(k);
+        self.report = BusReport::quiet();
+        Ok((active - k) as u32)
+    }
+
+    // Replaces.
+    fn give_back(&mut self, p: Processor, a: u32) -> Answer
+        requires { SoundSnooping M.Memory.words M.Memory.sound self.old }
+        ensures { Took M.Memory.words M.Memory.sound M.Memory.spare self.old (Replace p a) result self.new }
+    {
+        let _k = self.caches.replaceable(self.memory.size(), p, a)?;
+        let own = self.caches.version(p, a).own;
+        let wrote = WrittenBack {
+            words: write_own(&mut self.memory, a, own),
+            last: own.and(Some(a)),
+        };
+        self.caches.end_line(p, a);
+        self.report = BusReport::written_back(wrote);
+        Ok(wrote.words)
+    }
+
+    // Commits.
+    fn retire(&mut self, p: Processor) -> Answer
+        requires { SoundSnooping M.Memory.words M.Memory.sound self.old }
+        ensures { Took M.Memory.words M.Memory.sound M.Memory.spare self.old (Commit p) result self.new }
+    {
+        let _k = self.caches.committable(p)?;
+        let wrote = write_back(&mut self.memory, &self.caches, p);
+        self.caches.retire(p);
+        self.report = BusReport::written_back(wrote);
+        Ok(wrote.words)
+    }
+}
+
+impl<M: Memory> VersionStore for SnoopingStore<M> {
+    type Below = M;
+
+    ghost plain = { plain_in M.Memory.words };
+
+    ghost sound = { SoundSnooping M.Memory.words M.Memory.sound };
+
+    ghost spare = { λ s. M.Memory.spare s.memory };
+
+    // The bus has nothing to report at opening, and a turn shows every line and the bus report.
+    ghost opens = { λ s. s.report ≡ quiet };
+
+    ghost shows = { Shown M.Memory.words };
+
+    // All lines are invalid.
+    fn open(memory: M) -> SnoopingStore<M> {
+        SnoopingStore {
+            memory,
+            caches: Caches::new(),
+            report: BusReport::quiet(),
+        }
+    }
+
+    fn take_turn(&mut self, turn: Turn) -> Answer {
+        let p = Processor::try_from(turn.processor())?;
+        match turn {
+            Turn::Start { p: _ } => self.begin(p),
+            Turn::Load { p: _, a } => self.fetch(p, a),
+            Turn::Store { p: _, a, w } => self.put(p, a, w),
+            Turn::Squash { p: _ } => self.cut(p),
+            Turn::Commit { p: _ } => self.retire(p),
+            Turn::Replace { p: _, a } => self.give_back(p, a),
+        }
+    }
+
+    // It changes neither lines nor report.
+    fn word(&mut self, a: u32) -> Result<u32, Refusal>
+        requires { SoundSnooping M.Memory.words M.Memory.sound self.old }
+        ensures answer { result ≡ word_of (plain_in M.Memory.words self.old) a }
+        ensures after { plain_in M.Memory.words self.new ≡ plain_in M.Memory.words self.old }
+        ensures beside { M.Memory.spare self.new.memory ≡ M.Memory.spare self.old.memory }
+        ensures kept { SoundSnooping M.Memory.words M.Memory.sound self.new }
+        ensures lines { self.new.caches.list ≡ self.old.caches.list }
+        ensures report { self.new.report ≡ self.old.report }
+    {
+        Ok(self.memory.read(a)?)
+    }
+
+    fn tasks(&self) -> u32 {
+        self.caches.order().len() as u32
+    }
+
+    fn size(&self) -> u32 {
+        self.memory.size()
+    }
+
+    fn close(self) -> M {
+        let SnoopingStore {
+            memory,
+            caches: _,
+            report: _,
+        } = self;
+        memory
+    }
+}
