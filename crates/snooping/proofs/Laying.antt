@@ -24,38 +24,12 @@ use Rattle.snooping.specs.Layout.{held_in, next_holder, line_for, line_of, lines
 use Rattle.snooping.specs.Lines.{blank, version_in}
 use Rattle.snooping.specs.Snooping.{line_answer}
 use Rattle.snooping.specs.States.{has_l, has_s, with_bits}
+use Rattle.versions.proofs.Classes.{held-some, held_none}
 use Rattle.versions.proofs.Ordering.{place_none, none-some, apart_below}
 use Rattle.versions.proofs.Tabling.{placed, task_on-is, past_is, given-load}
 use Rattle.snooping.proofs.Grids.{past-blank}
 use Rattle.snooping.proofs.Holders.{seen-append, place-value}
 use Rattle.snooping.proofs.Keeping.{Laid, shows, shown}
-
-pub held-some : (f : ℕ → Bool) (c n a : ℕ) → of_class f c n ≡ Some a → (a < n) × (f a ≡ true) × (a % 16 ≡ c)
-held-some f c zero a e = let z : ◌≡◌ {A = ℕ} 0 1 = cc in absurd (omega arith)
-held-some f c (suc n) a e = go (f n) (eqb (n % 16) c) refl refl e (λ g. held-some f c n a g)
-  where
-    go : (t u : Bool) → f n ≡ t → eqb (n % 16) c ≡ u → cond (t && u) (Some n) (of_class f c n) ≡ Some a → (of_class f c n ≡ Some a → (a < n) × (f a ≡ true) × (a % 16 ≡ c))
-        → (a < suc n) × (f a ≡ true) × (a % 16 ≡ c)
-    go true true h s g again =
-        let same : n ≡ a = cc in
-        (omega (arith, same), ap (λ (b : ℕ). f b) (sym same) ∙ h, ap (λ (b : ℕ). b % 16) (sym same) ∙ eqb-true (n % 16) c s)
-    go true false h s g again = let x = again g in (omega (arith, x.0), x.1, x.2)
-    go false u h s g again = let x = again g in (omega (arith, x.0), x.1, x.2)
-
-pub held_none : (f : ℕ → Bool) (c n : ℕ) → of_class f c n ≡ None → (b : ℕ) → b < n → b % 16 ≡ c → f b ≡ false
-held_none f c zero e b h class = absurd (omega arith)
-held_none f c (suc n) e b lim class = go (f n) (eqb (n % 16) c) refl refl e (λ g l. held_none f c n g b l class)
-  where
-    here : (t : Bool) → f n ≡ t → (t ≡ true → ⊥) → (b < n → f b ≡ false) → f b ≡ false
-    here true h ne again = absurd (ne refl)
-    here false h ne again = ⊎_elim (λ (l : b < n). again l) (λ (l : n ≤ b). let same : n ≡ b = omega (arith, lim) in ap (λ (r : ℕ). f r) (sym same) ∙ h) (cases_lt b n)
-
-    go : (t u : Bool) → f n ≡ t → eqb (n % 16) c ≡ u → cond (t && u) (Some n) (of_class f c n) ≡ None → (of_class f c n ≡ None → b < n → f b ≡ false) → f b ≡ false
-    go true true h s g again = absurd (none-some n g)
-    go true false h s g again =
-        ⊎_elim (λ (l : b < n). again g l)
-        (λ (l : n ≤ b). let same : n ≡ b = omega (arith, lim) in absurd (eqb-false (n % 16) c s (ap (λ (r : ℕ). r % 16) same ∙ class))) (cases_lt b n)
-    go false u h s g again = here false h (λ e. absurd (true≢false (sym e))) (again g)
 
 nothing-held : (c n : ℕ) → held_in (λ a. no_version) c n ≡ None
 nothing-held c zero = refl

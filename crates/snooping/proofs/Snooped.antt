@@ -20,7 +20,7 @@ use Rattle.versions.specs.Versions.{no_version, is_held, is_own, with_load, with
 use Rattle.versions.proofs.Classes.{unheld-none}
 use Rattle.versions.proofs.Fits.{none-join, without_all-value, front_out}
 use Rattle.versions.proofs.Judging.{Agrees, start-agrees, no-processor, ok-access, ok-commit, ok-replace}
-use Rattle.versions.proofs.Ordering.{apart-push, apart-take, apart-drop, apart_below, none-some}
+use Rattle.versions.proofs.Ordering.{apart-push, apart-take, apart-drop, none-some}
 use Rattle.versions.proofs.Serving.{Served, refused-by, class-free, serve-start, serve-load, serve-store, serve-squash, serve-commit, serve-replace}
 use Rattle.versions.proofs.Tabling.{placed, none-past, place-take, squashes, squashes-le}
 use Rattle.snooping.specs.declared.cache.Cache.{Cache}

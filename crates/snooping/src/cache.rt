@@ -1,4 +1,4 @@
-// One processor's cache: 16 lines. Address a has line a mod 16.
+// One processor's cache: a line for each class of addresses.
 ghost use Rattle.std.specs.Prelude.{◌≡◌, ◌%◌, map, replicate, slice_index_or, slice_set};
 ghost use Rattle.snooping.specs.Lines.{blank, version_at, with_loaded, with_stored, with_next, ended, unlinked};
 
@@ -6,6 +6,7 @@ use crate::line::Line;
 use crate::state::LineEvent;
 use versions::{Class, Order, Version};
 
+// It is copied only where four of them are made.
 #[derive(Clone, Copy)]
 pub struct Cache {
     lines: [Line; 16],
@@ -39,7 +40,7 @@ impl Cache {
     pub fn load(&mut self, a: u32, w: u32)
         ensures { self.new.lines ≡ slice_set self.old.lines (a % 16) (with_loaded (slice_index_or self.old.lines (a % 16) blank) a w) }
     {
-        let line = &mut self.lines[a as usize % 16];
+        let line = &mut self.lines[Class::of(a).index()];
         line.load(a, w);
     }
 
@@ -47,7 +48,7 @@ impl Cache {
     pub fn store(&mut self, a: u32, w: u32)
         ensures { self.new.lines ≡ slice_set self.old.lines (a % 16) (with_stored (slice_index_or self.old.lines (a % 16) blank) a w) }
     {
-        let line = &mut self.lines[a as usize % 16];
+        let line = &mut self.lines[Class::of(a).index()];
         line.store(a, w);
     }
 
@@ -55,7 +56,7 @@ impl Cache {
     pub fn link(&mut self, a: u32, next: Option<u32>)
         ensures { self.new.lines ≡ slice_set self.old.lines (a % 16) (with_next (slice_index_or self.old.lines (a % 16) blank) next) }
     {
-        let line = &mut self.lines[a as usize % 16];
+        let line = &mut self.lines[Class::of(a).index()];
         line.link(next);
     }
 
@@ -63,7 +64,7 @@ impl Cache {
     pub fn end(&mut self, a: u32, event: LineEvent)
         ensures { self.new.lines ≡ slice_set self.old.lines (a % 16) (ended event (slice_index_or self.old.lines (a % 16) blank)) }
     {
-        let line = &mut self.lines[a as usize % 16];
+        let line = &mut self.lines[Class::of(a).index()];
         line.end(event);
     }
 

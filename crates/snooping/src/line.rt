@@ -6,8 +6,9 @@ ghost use Rattle.snooping.specs.Lines.{blank, version_at, with_loaded, with_stor
 use crate::state::{LineEvent, LineState};
 use versions::{Order, Version};
 
-// The tag is the whole address. The pointer names the processor whose line is next in the address's version ordering
-// list. An invalid line has no tag, word or pointer: zeros and none.
+// State, tag, word and pointer stand side by side, as hardware keeps them. The tag is the whole address. The pointer names
+// the processor whose line is next in the address's version ordering list. An invalid line has no tag, word or pointer:
+// zeros and none.
 #[derive(Clone, Copy)]
 pub struct Line {
     pub state: LineState,

@@ -133,7 +133,7 @@ impl<M: Memory> SnoopingStore<M> {
         requires { SoundSnooping M.Memory.words M.Memory.sound self.old }
         ensures { Took M.Memory.words M.Memory.sound M.Memory.spare self.old (Replace p a) result self.new }
     {
-        let _k = self.caches.replaceable(self.memory.size(), p, a)?;
+        self.caches.replaceable(self.memory.size(), p, a)?;
         let own = self.caches.version(p, a).own;
         let wrote = WrittenBack {
             words: write_own(&mut self.memory, a, own),
@@ -149,7 +149,7 @@ impl<M: Memory> SnoopingStore<M> {
         requires { SoundSnooping M.Memory.words M.Memory.sound self.old }
         ensures { Took M.Memory.words M.Memory.sound M.Memory.spare self.old (Commit p) result self.new }
     {
-        let _k = self.caches.committable(p)?;
+        self.caches.committable(p)?;
         let wrote = write_back(&mut self.memory, &self.caches, p);
         self.caches.retire(p);
         self.report = BusReport::written_back(wrote);
@@ -183,12 +183,12 @@ impl<M: Memory> VersionStore for SnoopingStore<M> {
     fn take_turn(&mut self, turn: Turn) -> Answer {
         let p = Processor::try_from(turn.processor())?;
         match turn {
-            Turn::Start { p: _ } => self.begin(p),
-            Turn::Load { p: _, a } => self.fetch(p, a),
-            Turn::Store { p: _, a, w } => self.put(p, a, w),
-            Turn::Squash { p: _ } => self.cut(p),
-            Turn::Commit { p: _ } => self.retire(p),
-            Turn::Replace { p: _, a } => self.give_back(p, a),
+            Turn::Start { .. } => self.begin(p),
+            Turn::Load { a, .. } => self.fetch(p, a),
+            Turn::Store { a, w, .. } => self.put(p, a, w),
+            Turn::Squash { .. } => self.cut(p),
+            Turn::Commit { .. } => self.retire(p),
+            Turn::Replace { a, .. } => self.give_back(p, a),
         }
     }
 

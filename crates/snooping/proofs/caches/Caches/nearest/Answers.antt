@@ -1,4 +1,4 @@
-use Rattle.std.proofs.Common.{ℕ, take, sym, ◌∙◌, rules, tests}
+use Rattle.std.proofs.Common.{take, sym, ◌∙◌, rules, tests}
 use Rattle.std.proofs.lemmas.Iterator.Adapters.{YieldsList-from_rev_slice, option_map_id}
 use Rattle.std.proofs.lemmas.Iterator.Consumers.{YieldsList-from_copied}
 use Rattle.std.proofs.lemmas.Iterator.Search.{find_from_yields_List}

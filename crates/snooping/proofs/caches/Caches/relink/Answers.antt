@@ -1,12 +1,10 @@
-use Rattle.std.proofs.Common.{◌≡◌, ◌+◌, ◌-◌, ◌%◌, ◌<◌, ◌∷◌, [], ◌++◌, length, get_or, drop, set, Some, Option, ℕ, sym, refl, ap, ◌∙◌, subst, arith}
+use Rattle.std.proofs.Common.{◌≡◌, ◌-◌, ◌%◌, ◌<◌, ◌∷◌, [], ◌++◌, length, get_or, drop, set, Some, ℕ, sym, ap, ◌∙◌, subst, arith}
 use Rattle.std.proofs.lemmas.List.{length_push, length-reverse, set-get_or}
 use Rattle.std.proofs.lemmas.Iterator.Adapters.{YieldsList-from_rev_slice}
 use Rattle.std.proofs.lemmas.Iterator.Consumers.{YieldsList-turn, YieldsList-end}
 use Rattle.versions.specs.Versions.{is_held}
-use Rattle.snooping.specs.declared.cache.Cache.{Cache}
 use Rattle.snooping.specs.Caches.{lines_in, table_of, processors_of}
 use Rattle.snooping.specs.Grid.{line_in, no_cache, Tagged, Wide, relinked, holder}
-use Rattle.snooping.specs.Lines.{blank, with_next}
 use Rattle.snooping.proofs.Grids.{wide-line, line-changed}
 use Rattle.snooping.proofs.Linking.{link-held, link-unheld, link-none, tagged-relinked}
 use Rattle.snooping.proofs.Watching.{from_back}

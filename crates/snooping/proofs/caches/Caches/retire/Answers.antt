@@ -1,7 +1,7 @@
-use Rattle.std.proofs.Common.{◌≡◌, ℕ, set, refl, sym, ap, ◌∙◌, subst}
+use Rattle.std.proofs.Common.{ℕ, refl, sym, ap, ◌∙◌, subst}
 use Rattle.snooping.specs.declared.state.LineEvent.TheVariants.{Commit}
 use Rattle.snooping.specs.Caches.{lines_in}
-use Rattle.snooping.specs.Grid.{line_in, Tagged, with_cache}
+use Rattle.snooping.specs.Grid.{Tagged, with_cache}
 use Rattle.snooping.specs.Lines.{ended}
 use Rattle.snooping.proofs.Grids.{cache-mapped, wide-mapped, tagged-ended}
 use Rattle.snooping.proofs.caches.Caches.retire.Goals as goal

@@ -1,4 +1,4 @@
-use Rattle.std.proofs.Common.{◌≡◌, ◌<◌, set, is_some, sym, refl, ap, ◌∙◌, subst, arith}
+use Rattle.std.proofs.Common.{◌<◌, set, is_some, sym, refl, ap, ◌∙◌, subst, arith}
 use Rattle.snooping.specs.declared.state.LineEvent.TheVariants.{Squash}
 use Rattle.snooping.specs.Caches.{lines_in, processors_of}
 use Rattle.snooping.specs.Grid.{line_in, Tagged, Wide}

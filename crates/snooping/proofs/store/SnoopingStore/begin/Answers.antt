@@ -14,9 +14,6 @@ returns-in_err-active g c =
     took-refused m.words m.sound m.spare s (Start c.args.p) c.from_residual.result c.in_err-active.field-0.0 (start_place (processors_of s.caches) c.args.p) c.requires (start-judged (m.words s.memory) (processors_of s.caches) (table_of s.caches) c.args.p (subst (λ (n : ℕ). n < 4) c.number.ensures.value c.number.ensures.bound))
     c.in_err-active.ensures.value (q.1 ∙ ap Err q.2)
 
-pub append-requires : goal.append-requires
-append-requires g c = (ok-start (processors_of c.args.self.now.caches) c.args.p c.in_ok-active.active c.in_ok-active.ensures.value).0
-
 pub returns : goal.returns
 returns g c =
     let m = g.M.Memory in

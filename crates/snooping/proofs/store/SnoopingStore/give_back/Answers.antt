@@ -16,13 +16,13 @@ given-back : (own : Option ℕ) (a : ℕ) → written_last (option_and own (Some
 given-back None a = refl
 given-back (Some w) a = refl
 
-pub returns-in_err-_k : goal.returns-in_err-_k
-returns-in_err-_k g c =
+pub returns-in_err-replaceable : goal.returns-in_err-replaceable
+returns-in_err-replaceable g c =
     let m = g.M.Memory in
     let s = c.args.self.now in
     let q = err_from_is_err_and c.from_residual.result c.from_residual.ensures.1 in
-    took-refused m.words m.sound m.spare s (Replace c.args.p c.args.a) c.from_residual.result c.in_err-_k.field-0.0 (replace_place (length (m.words s.memory)) (processors_of s.caches) (table_of s.caches) c.args.p c.args.a) c.requires (replace-agrees (m.words s.memory) (processors_of s.caches) (table_of s.caches) c.args.p c.args.a)
-    (c.in_err-_k.ensures.value ∙ ap (λ (n : ℕ). replace_place n (processors_of s.caches) (table_of s.caches) c.args.p c.args.a) c.size.ensures) (q.1 ∙ ap Err q.2)
+    took-refused m.words m.sound m.spare s (Replace c.args.p c.args.a) c.from_residual.result c.in_err-replaceable.field-0.0 (replace_place (length (m.words s.memory)) (processors_of s.caches) (table_of s.caches) c.args.p c.args.a) c.requires (replace-agrees (m.words s.memory) (processors_of s.caches) (table_of s.caches) c.args.p c.args.a)
+    (c.in_err-replaceable.ensures.value ∙ ap (λ (n : ℕ). replace_place n (processors_of s.caches) (table_of s.caches) c.args.p c.args.a) c.size.ensures) (q.1 ∙ ap Err q.2)
 
 pub returns : goal.returns
 returns g c =
@@ -32,9 +32,9 @@ returns g c =
     let held = c.version-own.result.own in
     let own : held ≡ (table_of s.caches c.args.p c.args.a).own = ap (λ (v : Version). v.own) c.version-own.ensures in
     took m.words m.sound m.spare s (Replace c.args.p c.args.a) (Ok n) _
-    (turn-replace (m.words s.memory) (processors_of s.caches) s.caches.list s.caches.wide c.in_ok-_k.ensures.apart c.requires.fits c.requires.lines s.report c.args.p c.args.a c.in_ok-_k._k n
+    (turn-replace (m.words s.memory) (processors_of s.caches) s.caches.list s.caches.wide c.in_ok-replaceable.ensures.apart c.requires.fits c.requires.lines s.report c.args.p c.args.a c.in_ok-replaceable.field-0 n
     (m.words c.write_own.new.memory) (processors_of c.end_line.new.self) c.end_line.new.self.list c.written_back-self.result
-    (c.in_ok-_k.ensures.value ∙ ap (λ (n : ℕ). replace_place n (processors_of s.caches) (table_of s.caches) c.args.p c.args.a) c.size.ensures)
+    (c.in_ok-replaceable.ensures.value ∙ ap (λ (n : ℕ). replace_place n (processors_of s.caches) (table_of s.caches) c.args.p c.args.a) c.size.ensures)
     (c.write_own.ensures.count ∙ ap (λ (o : Option ℕ). cond (is_some o) 1 0) own) (c.write_own.ensures.words ∙ ap (λ (o : Option ℕ). written_to o c.args.a (m.words s.memory)) own)
     c.end_line.ensures.order c.end_line.ensures.lines c.end_line.new.self.wide
     (c.written_back-self.ensures

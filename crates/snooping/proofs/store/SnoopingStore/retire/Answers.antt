@@ -1,4 +1,4 @@
-use Rattle.std.proofs.Common.{Ok, Err, refl, ap, ◌∙◌}
+use Rattle.std.proofs.Common.{Ok, Err, ap, ◌∙◌}
 use Rattle.std.proofs.lemmas.Result.{err_from_is_err_and}
 use Rattle.versions.specs.declared.turn.Turn.TheVariants.{Commit}
 use Rattle.versions.specs.Tables.{commit_place}
@@ -7,13 +7,13 @@ use Rattle.snooping.specs.Caches.{processors_of, table_of}
 use Rattle.snooping.proofs.Snooped.{took, took-refused, turn-commit}
 use Rattle.snooping.proofs.store.SnoopingStore.retire.Goals as goal
 
-pub returns-in_err-_k : goal.returns-in_err-_k
-returns-in_err-_k g c =
+pub returns-in_err-committable : goal.returns-in_err-committable
+returns-in_err-committable g c =
     let m = g.M.Memory in
     let s = c.args.self.now in
     let q = err_from_is_err_and c.from_residual.result c.from_residual.ensures.1 in
-    took-refused m.words m.sound m.spare s (Commit c.args.p) c.from_residual.result c.in_err-_k.field-0.0 (commit_place (processors_of s.caches) c.args.p) c.requires (commit-agrees (m.words s.memory) (processors_of s.caches) (table_of s.caches) c.args.p)
-    c.in_err-_k.ensures.value (q.1 ∙ ap Err q.2)
+    took-refused m.words m.sound m.spare s (Commit c.args.p) c.from_residual.result c.in_err-committable.field-0.0 (commit_place (processors_of s.caches) c.args.p) c.requires (commit-agrees (m.words s.memory) (processors_of s.caches) (table_of s.caches) c.args.p)
+    c.in_err-committable.ensures.value (q.1 ∙ ap Err q.2)
 
 pub returns : goal.returns
 returns g c =
@@ -21,6 +21,6 @@ returns g c =
     let s = c.args.self.now in
     let wrote = c.write_back-wrote in
     took m.words m.sound m.spare s (Commit c.args.p) (Ok wrote.result.words) _
-    (turn-commit (m.words s.memory) (processors_of s.caches) s.caches.list s.caches.wide c.in_ok-_k.ensures.apart c.requires.fits c.requires.lines s.report c.args.p c.in_ok-_k._k wrote.result.words wrote.result.last
-    (m.words wrote.new.memory) (processors_of c.retire.new.self) c.retire.new.self.list c.written_back-self.result c.in_ok-_k.ensures.value wrote.ensures.count wrote.ensures.last wrote.ensures.words
+    (turn-commit (m.words s.memory) (processors_of s.caches) s.caches.list s.caches.wide c.in_ok-committable.ensures.apart c.requires.fits c.requires.lines s.report c.args.p c.in_ok-committable.field-0 wrote.result.words wrote.result.last
+    (m.words wrote.new.memory) (processors_of c.retire.new.self) c.retire.new.self.list c.written_back-self.result c.in_ok-committable.ensures.value wrote.ensures.count wrote.ensures.last wrote.ensures.words
     c.retire.ensures.order c.retire.ensures.lines c.retire.new.self.wide c.written_back-self.ensures) wrote.ensures.kept wrote.ensures.beside
