@@ -1,7 +1,6 @@
 // Images that are loaded and images that are refused, over eight words.
 use memory::WordMemory;
 use player::{ImageFault, ImageWhy, load_image};
-use std::alloc::Global;
 use std::process::Abort;
 use std::test::*;
 
@@ -9,34 +8,30 @@ const BEFORE: [u32; 8] = [10, 11, 12, 13, 14, 15, 16, 17];
 
 // Loads an image whose numbers are given, with some bytes cut off its end.
 fn load_numbers(
-    rt: &impl Abort,
-    alloc: Global,
+    rt: &(impl Abort + AllocGlobal),
     row: &mut [u32],
     numbers: &[u32],
     cut: usize,
 ) -> Result<Result<(), ImageFault>, Fail> {
-    let mut image = Vec::new(alloc);
+    let mut image = Vec::new(rt.alloc());
     for number in numbers {
-        for byte in number.to_le_bytes() {
-            image.push(byte)?;
-        }
+        image.extend_from_slice(&number.to_le_bytes())?;
     }
     assert!(rt; cut <= image.len());
     assert!(rt; WordMemory::check(row).is_ok());
     let mut memory = WordMemory::open(row);
-    Ok(load_image(&mut memory, &image.as_slice()[0..image.len() - cut]))
+    Ok(load_image(&mut memory, &image[..image.len() - cut]))
 }
 
-fn accepts(rt: &impl Abort, alloc: Global, numbers: &[u32], after: [u32; 8]) -> Result<(), Fail> {
+fn accepts(rt: &(impl Abort + AllocGlobal), numbers: &[u32], after: [u32; 8]) -> Result<(), Fail> {
     let mut row = BEFORE;
-    assert_eq!(rt; load_numbers(rt, alloc, &mut row, numbers, 0)?, Ok(()));
+    assert_eq!(rt; load_numbers(rt, &mut row, numbers, 0)?, Ok(()));
     assert!(rt; row == after);
     Ok(())
 }
 
 fn refuses(
-    rt: &impl Abort,
-    alloc: Global,
+    rt: &(impl Abort + AllocGlobal),
     numbers: &[u32],
     cut: usize,
     why: ImageWhy,
@@ -44,32 +39,22 @@ fn refuses(
 ) -> Result<(), Fail> {
     let mut row = BEFORE;
     let fault = ImageFault { why, place };
-    assert_eq!(rt;
-        load_numbers(rt, alloc, &mut row, numbers, cut)?,
-        Err(fault)
-    );
+    assert_eq!(rt; load_numbers(rt, &mut row, numbers, cut)?, Err(fault));
     assert!(rt; row == BEFORE);
     Ok(())
 }
 
 #[test]
 fn words_go_where_the_pairs_say_and_others_stay(rt: HostRuntime) -> Result<(), Fail> {
-    accepts(&rt, rt.alloc(), &[0], BEFORE)?;
+    accepts(&rt, &[0], BEFORE)?;
+    accepts(&rt, &[1, 0, 1, 70], [70, 11, 12, 13, 14, 15, 16, 17])?;
     accepts(
         &rt,
-        rt.alloc(),
-        &[1, 0, 1, 70],
-        [70, 11, 12, 13, 14, 15, 16, 17],
-    )?;
-    accepts(
-        &rt,
-        rt.alloc(),
         &[2, 1, 2, 5, 3, 70, 71, 72, 73, 74],
         [10, 70, 71, 13, 14, 72, 73, 74],
     )?;
     accepts(
         &rt,
-        rt.alloc(),
         &[2, 1, 2, 3, 1, 70, 71, 4294967295],
         [10, 70, 71, 4294967295, 14, 15, 16, 17],
     )
@@ -77,70 +62,41 @@ fn words_go_where_the_pairs_say_and_others_stay(rt: HostRuntime) -> Result<(), F
 
 #[test]
 fn the_length_must_be_as_counted(rt: HostRuntime) -> Result<(), Fail> {
-    refuses(&rt, rt.alloc(), &[], 0, ImageWhy::Length, 0)?;
-    refuses(&rt, rt.alloc(), &[0], 1, ImageWhy::Length, 3)?;
-    refuses(&rt, rt.alloc(), &[1, 0, 1], 1, ImageWhy::Length, 11)?;
-    refuses(&rt, rt.alloc(), &[1, 0, 1], 0, ImageWhy::Length, 12)?;
-    refuses(&rt, rt.alloc(), &[1, 0, 1, 70], 1, ImageWhy::Length, 15)?;
-    refuses(&rt, rt.alloc(), &[1, 0, 1, 70, 71], 3, ImageWhy::Length, 17)?;
-    refuses(&rt, rt.alloc(), &[0, 0], 0, ImageWhy::Length, 8)
+    refuses(&rt, &[], 0, ImageWhy::Length, 0)?;
+    refuses(&rt, &[0], 1, ImageWhy::Length, 3)?;
+    refuses(&rt, &[1, 0, 1], 1, ImageWhy::Length, 11)?;
+    refuses(&rt, &[1, 0, 1], 0, ImageWhy::Length, 12)?;
+    refuses(&rt, &[1, 0, 1, 70], 1, ImageWhy::Length, 15)?;
+    refuses(&rt, &[1, 0, 1, 70, 71], 3, ImageWhy::Length, 17)?;
+    refuses(&rt, &[0, 0], 0, ImageWhy::Length, 8)
 }
 
 #[test]
 fn at_most_64_pairs(rt: HostRuntime) -> Result<(), Fail> {
-    refuses(&rt, rt.alloc(), &[65], 0, ImageWhy::PairCount, 0)?;
-    refuses(&rt, rt.alloc(), &[4294967295], 0, ImageWhy::PairCount, 0)?;
-    refuses(&rt, rt.alloc(), &[64], 0, ImageWhy::Length, 4)
+    refuses(&rt, &[65], 0, ImageWhy::PairCount, 0)?;
+    refuses(&rt, &[4294967295], 0, ImageWhy::PairCount, 0)?;
+    refuses(&rt, &[64], 0, ImageWhy::Length, 4)
 }
 
 #[test]
 fn pairs_have_words_and_are_sorted(rt: HostRuntime) -> Result<(), Fail> {
-    refuses(&rt, rt.alloc(), &[1, 0, 0], 0, ImageWhy::PairOrder, 4)?;
-    refuses(&rt, rt.alloc(), &[1, 9, 0], 0, ImageWhy::PairOrder, 4)?;
-    refuses(
-        &rt,
-        rt.alloc(),
-        &[2, 1, 2, 2, 1],
-        0,
-        ImageWhy::PairOrder,
-        12,
-    )?;
-    refuses(
-        &rt,
-        rt.alloc(),
-        &[2, 4, 1, 2, 1, 70, 71],
-        0,
-        ImageWhy::PairOrder,
-        12,
-    )
+    refuses(&rt, &[1, 0, 0], 0, ImageWhy::PairOrder, 4)?;
+    refuses(&rt, &[1, 9, 0], 0, ImageWhy::PairOrder, 4)?;
+    refuses(&rt, &[2, 1, 2, 2, 1], 0, ImageWhy::PairOrder, 12)?;
+    refuses(&rt, &[2, 4, 1, 2, 1, 70, 71], 0, ImageWhy::PairOrder, 12)
 }
 
 #[test]
 fn pairs_end_inside_the_memory(rt: HostRuntime) -> Result<(), Fail> {
-    refuses(&rt, rt.alloc(), &[1, 8, 1, 70], 0, ImageWhy::PairOutside, 4)?;
-    refuses(&rt, rt.alloc(), &[1, 7, 2], 0, ImageWhy::PairOutside, 4)?;
+    refuses(&rt, &[1, 8, 1, 70], 0, ImageWhy::PairOutside, 4)?;
+    refuses(&rt, &[1, 7, 2], 0, ImageWhy::PairOutside, 4)?;
+    refuses(&rt, &[1, 4294967295, 1], 0, ImageWhy::PairOutside, 4)?;
     refuses(
         &rt,
-        rt.alloc(),
-        &[1, 4294967295, 1],
-        0,
-        ImageWhy::PairOutside,
-        4,
-    )?;
-    refuses(
-        &rt,
-        rt.alloc(),
         &[1, 4294967295, 4294967295],
         0,
         ImageWhy::PairOutside,
         4,
     )?;
-    refuses(
-        &rt,
-        rt.alloc(),
-        &[2, 0, 9, 0, 0],
-        0,
-        ImageWhy::PairOutside,
-        4,
-    )
+    refuses(&rt, &[2, 0, 9, 0, 0], 0, ImageWhy::PairOutside, 4)
 }
