@@ -1,69 +1,16 @@
--- The checks of an image's pairs, one pair after another.
-use Rattle.std.proofs.Common.{◌≡◌, ℕ, suc, ◌+◌, ◌*◌, ◌<◌, ◌≤◌, Bool, true, false, cond, not, ◌||◌, eqb, ltb, List, [], ◌∷◌, ◌++◌, length, take, Some, None, Ok, Err, Option, Result, sym, refl, ap, ◌∙◌, add-zero, arith}
+-- The checks of an image: which fault comes first, and what an image without one keeps.
+use Rattle.std.proofs.Common.{◌≡◌, ℕ, ◌+◌, ◌*◌, ◌<◌, ◌≤◌, Bool, true, false, cond, not, ◌||◌, eqb, ltb, List, [], ◌∷◌, ◌++◌, length, Some, None, Ok, Err, Option, Result, sym, refl, ap, ◌∙◌, arith}
 use Rattle.std.proofs.lemmas.List.Sums.{sum_by-cons}
-use Rattle.std.proofs.lemmas.Bool.{cond-true, cond-false, or_left, or_right, or_from, or_parts, eq-eqb, ne_eqb, lt-ltb, le-ltb, ltb-false, eqb-true, not-false, not_from_true, not_from_false}
+use Rattle.std.proofs.lemmas.Bool.{cond-true, cond-false, or_parts, eq-eqb, ne_eqb, lt-ltb, le-ltb, ltb-false, eqb-true, not-false, not_from_true, not_from_false}
 use Rattle.memory.specs.Bytes.{words_of}
 use Rattle.player.specs.declared.fault.ImageFault.{ImageFault}
 use Rattle.player.specs.declared.fault.ImageWhy.TheVariants.{Length, PairCount, PairOrder, PairOutside}
 use Rattle.player.specs.declared.image.Pair.{Pair}
-use Rattle.player.specs.Image.{first_pairs, in_pairs, pair_conditions, first_fault, fault_at, pair_end, Inside, answer_unless, words_taken, image_fault, load_answer}
+use Rattle.player.specs.Image.{first_pairs, pair_conditions, first_fault, fault_at, pair_end, Inside, answer_unless, words_taken, image_fault, load_answer}
 
-abbrev pub pair_of : ℕ → ℕ → Pair
-pair_of o l = record { offset = o; len = l }
-
--- j pairs, where j is k + 1, are the first and k more
-pub first_pairs-more : (j k o l : ℕ) (ns ms : List ℕ) → j ≡ suc k → ns ≡ o ∷ l ∷ ms → first_pairs j ns ≡ pair_of o l ∷ first_pairs k ms
-first_pairs-more j k o l ns ms e is =
-    let two : 2 * j ≡ suc (suc (2 * k)) = omega arith in
-    ap (λ (m : ℕ). in_pairs (take m ns)) two ∙ ap (λ (xs : List ℕ). in_pairs (take (suc (suc (2 * k))) xs)) is
-
-pub first_pairs-none : (j : ℕ) (ns : List ℕ) → j ≡ 0 → first_pairs j ns ≡ []
-first_pairs-none j ns e = ap (λ (m : ℕ). first_pairs m ns) e
-
--- what pair i, of offset o and length l, makes of the fault f that the checks find; the pair before it ended at `end`
-module _ (f : Option ImageFault) (n i end o l j k : ℕ) (ns ms : List ℕ)
-    (found : f ≡ first_fault (pair_conditions n (4 + 8 * i) end (first_pairs j ns))) (more : j ≡ suc k) (is : ns ≡ o ∷ l ∷ ms) where
-  found_here : f ≡ first_fault (pair_conditions n (4 + 8 * i) end (pair_of o l ∷ first_pairs k ms))
-  found_here = found ∙ ap (λ (ps : List Pair). first_fault (pair_conditions n (4 + 8 * i) end ps)) (first_pairs-more j k o l ns ms more is)
-
-  disordered : (t : ℕ) → (eqb l 0 || ltb o end) ≡ true → Err (fault_at PairOrder (4 + 8 * i)) ≡ answer_unless f t
-  disordered t bad = sym (ap (λ (e : Option ImageFault). answer_unless e t) (found_here ∙ cond-true _ _ _ bad))
-
-  pub has-no-word : (t : ℕ) → l ≡ 0 → Err (fault_at PairOrder (4 + 8 * i)) ≡ answer_unless f t
-  has-no-word t none = disordered t (or_left (eqb l 0) (ltb o end) (eq-eqb l 0 none))
-
-  pub begins-before : (t : ℕ) → o < end → Err (fault_at PairOrder (4 + 8 * i)) ≡ answer_unless f t
-  begins-before t less = disordered t (or_right (eqb l 0) (ltb o end) (lt-ltb o end less))
-
-  in_order : (l ≡ 0 → ⊥) → end ≤ o → (eqb l 0 || ltb o end) ≡ false
-  in_order some after = or_from (eqb l 0) (ltb o end) (ne_eqb l 0 some) (le-ltb o end after)
-
-  pub ends-outside : (t : ℕ) → (l ≡ 0 → ⊥) → end ≤ o → n < o + l → Err (fault_at PairOutside (4 + 8 * i)) ≡ answer_unless f t
-  ends-outside t some after past =
-      sym (ap (λ (e : Option ImageFault). answer_unless e t) (found_here ∙ (cond-false _ _ _ (in_order some after) ∙ cond-true _ _ _ (lt-ltb n (o + l) past))))
-
-  pub found-next : (l ≡ 0 → ⊥) → end ≤ o → o + l ≤ n → f ≡ first_fault (pair_conditions n (4 + 8 * (i + 1)) (o + l) (first_pairs k ms))
-  found-next some after inside =
-      let eight : 4 + 8 * i + 8 ≡ 4 + 8 * (i + 1) = omega arith in
-      found_here
-      ∙ (cond-false _ _ _ (in_order some after)
-      ∙ (cond-false _ _ _ (le-ltb n (o + l) inside) ∙ ap (λ (at : ℕ). first_fault (pair_conditions n at (o + l) (first_pairs k ms))) eight))
-
--- one pair more takes its words, of t in all
-pub taken_next : (t words o l j k : ℕ) (ns ms : List ℕ) → t ≡ words + words_taken (first_pairs j ns) → j ≡ suc k → ns ≡ o ∷ l ∷ ms
-    → t ≡ words + l + words_taken (first_pairs k ms)
-taken_next t words o l j k ns ms so more is =
-    let pairs : words_taken (first_pairs j ns) ≡ l + words_taken (first_pairs k ms) =
-    ap words_taken (first_pairs-more j k o l ns ms more is) ∙ sum_by-cons (λ (p : Pair). p.len) (pair_of o l) (first_pairs k ms) in
-    omega arith
-
--- with no pair left there is no fault
-pub none_left : (f : Option ImageFault) (n at end t words j : ℕ) (ns : List ℕ) → f ≡ first_fault (pair_conditions n at end (first_pairs j ns))
-    → t ≡ words + words_taken (first_pairs j ns) → j ≡ 0 → Ok words ≡ answer_unless f t
-none_left f n at end t words j ns found so none =
-    let fine : f ≡ None = found ∙ ap (λ (ps : List Pair). first_fault (pair_conditions n at end ps)) (first_pairs-none j ns none) in
-    let all : t ≡ words = so ∙ (ap (λ (ps : List Pair). words + words_taken ps) (first_pairs-none j ns none) ∙ add-zero words) in
-    rw (fine, all)
+-- one pair more takes its words
+pub first_taken : (p : Pair) (ps qs : List Pair) → ps ≡ p ∷ qs → words_taken ps ≡ p.len + words_taken qs
+first_taken p ps qs is = ap words_taken is ∙ sum_by-cons (λ (q : Pair). q.len) p qs
 
 -- the fault of one list of conditions before another
 first_fault-append-some : (cs ds : List (Bool × ImageFault)) (e : ImageFault) → first_fault cs ≡ Some e → first_fault (cs ++ ds) ≡ Some e

@@ -10,4 +10,3 @@ pub mod RoundTrip
 pub mod Exact
 pub mod Adding
 pub mod Performing
-pub mod Showing

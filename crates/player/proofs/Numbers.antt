@@ -1,8 +1,9 @@
 -- The numbers of some bytes, taken off one at a time and two at a time.
-use Rattle.std.proofs.Common.{◌≡◌, ℕ, zero, suc, ◌+◌, ◌-◌, ◌*◌, ◌/◌, ◌<◌, ◌≤◌, List, ◌∷◌, length, get_or, take, drop, sym, refl, ap, ◌∙◌, arith}
+use Rattle.std.proofs.Common.{◌≡◌, ℕ, zero, suc, ◌+◌, ◌-◌, ◌*◌, ◌/◌, ◌<◌, ◌≤◌, List, [], ◌∷◌, length, get_or, take, drop, sym, refl, ap, ◌∙◌, arith}
 use Rattle.std.proofs.lemmas.List.FromFn.{length-map-range_with_len, get_or-map-range_with_len}
-use Rattle.std.proofs.lemmas.List.{ext_get_or, get_or-drop, drop-drop, length-drop, take_rest}
+use Rattle.std.proofs.lemmas.List.{ext_get_or, get_or-drop, get_or-take, drop-drop, drop-take, length-drop, length-take-le, take_rest}
 use Rattle.memory.specs.Bytes.{word_at, words_of}
+use Rattle.player.specs.Image.{in_pairs, first_pairs}
 
 pub length-words_of : (bs : List ℕ) → length (words_of bs) ≡ length bs / 4
 unfolding words_of
@@ -52,9 +53,46 @@ words_of-drop (suc m) bs h =
     ap (λ (k : ℕ). words_of (drop k bs)) four
     ∙ (ap words_of (sym (drop-drop (4 * m) 4 bs)) ∙ (later ∙ sym (ap (drop (suc m)) (first-number bs (omega arith)))))
 
--- the same past the first count pairs, as a slice from there on has it
-pub words-after-pairs : (count : ℕ) (bs : List ℕ) → 8 * count ≤ length bs
-    → words_of (take (length bs - 8 * count) (drop (8 * count) bs)) ≡ drop (2 * count) (words_of bs)
+-- and the first m
+pub words_of-take : (m : ℕ) (bs : List ℕ) → 4 * m ≤ length bs → words_of (take (4 * m) bs) ≡ take m (words_of bs)
+unfolding words_of
+words_of-take zero bs h = refl
+words_of-take (suc m) bs h =
+    let four : 4 * suc m ≡ 4 + 4 * m = omega arith in
+    let front = take (4 + 4 * m) bs in
+    let first : word_at front 0 ≡ word_at bs 0 = rw (get_or-take (4 + 4 * m) bs 0 0 (omega arith), get_or-take (4 + 4 * m) bs 1 0 (omega arith), get_or-take (4 + 4 * m) bs 2 0 (omega arith), get_or-take (4 + 4 * m) bs 3 0 (omega arith)) in
+    let later : words_of (take (4 * m) (drop 4 bs)) ≡ take m (words_of (drop 4 bs)) = words_of-take m (drop 4 bs) (rw (length-drop 4 bs) (omega arith)) in
+    ap (λ (k : ℕ). words_of (take k bs)) four
+    ∙ (first-number front (omega (arith, length-take-le (4 + 4 * m) bs (omega arith)))
+    ∙ (ap (λ (w : ℕ). w ∷ words_of (drop 4 front)) first
+    ∙ (ap (λ (l : List ℕ). word_at bs 0 ∷ words_of l) (drop-take 4 (4 * m) bs)
+    ∙ (ap (λ (l : List ℕ). word_at bs 0 ∷ l) later ∙ sym (ap (take (suc m)) (first-number bs (omega arith)))))))
+
+-- the first count pairs of some bytes, and the numbers past them
+pub pairs-of-front : (count : ℕ) (bs : List ℕ) → 8 * count ≤ length bs → in_pairs (words_of (take (8 * count) bs)) ≡ first_pairs count (words_of bs)
+pairs-of-front count bs h =
+    let twice : 8 * count ≡ 4 * (2 * count) = omega arith in
+    ap (λ (k : ℕ). in_pairs (words_of (take k bs))) twice ∙ ap in_pairs (words_of-take (2 * count) bs (omega arith))
+
+pub words-after-pairs : (count : ℕ) (bs : List ℕ) → 8 * count ≤ length bs → words_of (drop (8 * count) bs) ≡ drop (2 * count) (words_of bs)
 words-after-pairs count bs h =
     let twice : 8 * count ≡ 4 * (2 * count) = omega arith in
-    ap words_of (take_rest bs (8 * count)) ∙ (ap (λ (k : ℕ). words_of (drop k bs)) twice ∙ words_of-drop (2 * count) bs (omega arith))
+    ap (λ (k : ℕ). words_of (drop k bs)) twice ∙ words_of-drop (2 * count) bs (omega arith)
+
+-- too few bytes for a pair
+few-numbers : (ns : List ℕ) → length ns < 2 → in_pairs ns ≡ []
+few-numbers [] h = refl
+few-numbers (o ∷ []) h = refl
+few-numbers (o ∷ l ∷ ns) h = absurd (omega arith)
+
+pub no-pair : (bs : List ℕ) → length bs < 8 → in_pairs (words_of bs) ≡ []
+no-pair bs h = few-numbers (words_of bs) (rw length-words_of (omega arith))
+
+-- a pair has eight bytes
+length-in_pairs-le : (ns : List ℕ) → 2 * length (in_pairs ns) ≤ length ns
+length-in_pairs-le [] = omega arith
+length-in_pairs-le (o ∷ []) = omega arith
+length-in_pairs-le (o ∷ l ∷ ns) = omega (arith, length-in_pairs-le ns)
+
+pub length-pairs-le : (bs : List ℕ) → 8 * length (in_pairs (words_of bs)) ≤ length bs
+length-pairs-le bs = omega (arith, length-in_pairs-le (words_of bs), length-words_of bs)

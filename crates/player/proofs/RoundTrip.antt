@@ -6,9 +6,9 @@ use Rattle.std.specs.Char.{is_ascii_digit}
 use Rattle.std.specs.Str.{all_ascii_digits}
 use Rattle.std.proofs.lemmas.Fmt.{decimal_digit, decimal_nonempty, first_decimal, digits_decimal, digits_value-decimal}
 use Rattle.std.proofs.lemmas.List.{append_assoc, append-nil, flat_map_more, take_more}
-use Rattle.std.proofs.lemmas.Str.Parse.{IsNumeralModel, numerals_by_value, tells_all_ascii_digits}
 use Rattle.std.proofs.lemmas.Bool.{and_parts, cond-true, cond-false, eq-eqb, ne_eqb, leb-true, lt-ltb, cases_lt}
 use Rattle.versions.specs.declared.turn.Turn.{Turn}
+use Rattle.versions.specs.Turns.{turn_text as turn_shown}
 use Rattle.versions.specs.declared.turn.Turn.TheVariants.{Start, Load, Store, Squash, Commit, Replace}
 use Rattle.player.specs.declared.fault.TextWhy.{TextWhy}
 use Rattle.player.specs.declared.fault.TextWhy.TheVariants as why
@@ -21,6 +21,7 @@ use Rattle.player.specs.Splits.{line_end, space, split, begun}
 use Rattle.player.specs.Text.{whole_read, turn_before, line_read, lines_read, text_read}
 use Rattle.player.specs.Verbs.{verb_text, verb_named, field_count, turn_with}
 use Rattle.player.specs.Writing.{verb_of, fields_in, field_text, turn_text, line_of, text_of, Small}
+pub use Rattle.player.proofs.Numbering.{own}
 use Rattle.player.proofs.Reading.{lines_cons}
 
 -- bytes without a separator
@@ -58,9 +59,6 @@ digits-no-separator sep (d ∷ ds) low digits =
     cond-false (eqb d sep) (Some ds) (after sep ds) (ne_eqb d sep (λ e. omega (arith, leb-true 48 d edges.0))) ∙ digits-no-separator sep ds low both.1
 
 -- a number of 32 bits, written and read
-pub own : IsNumeralModel (λ ds. all_ascii_digits ds ≡ true) (digits_value 10)
-own = numerals_by_value (λ ds. all_ascii_digits ds ≡ true) tells_all_ascii_digits
-
 all_digits-decimal : (n : ℕ) → n < 2 ^ 32 → all_ascii_digits (decimal n) ≡ true
 all_digits-decimal n h = digits_decimal own n (omega arith)
 
@@ -155,13 +153,11 @@ text-more ts i d bs line h bs-is line-is =
     ∙ (ap (λ (l : List ℕ). text_of (take i ts) ++ l) line-is
     ∙ (flat_map_more line_of [] (take i ts) (get_or ts i d) ∙ ap text_of (sym (take_more ts i d h))))
 
--- a line as it is formatted, with one field, two or three
-pub one_field : (front : List ℕ) (p : ℕ) → front ++ (decimal p ++ codes "\n") ≡ front ++ (flat_map decimal (p ∷ []) ++ line_end ∷ [])
-one_field front p = simp append_assoc
-
-pub two_fields : (front : List ℕ) (p a : ℕ) → front ++ (decimal p ++ (codes " " ++ (decimal a ++ codes "\n"))) ≡ front ++ ((decimal p ++ flat_map field_text (a ∷ [])) ++ line_end ∷ [])
-two_fields front p a = simp append_assoc
-
-pub three-fields : (front : List ℕ) (p a w : ℕ)
-    → front ++ (decimal p ++ (codes " " ++ (decimal a ++ (codes " " ++ (decimal w ++ codes "\n"))))) ≡ front ++ ((decimal p ++ flat_map field_text (a ∷ w ∷ [])) ++ line_end ∷ [])
-three-fields front p a w = simp append_assoc
+-- a turn as it shows itself
+pub line-written : (t : Turn) → turn_shown t ++ codes "\n" ≡ line_of t
+line-written (Start p) = simp append_assoc
+line-written (Load p a) = simp append_assoc
+line-written (Store p a w) = simp append_assoc
+line-written (Squash p) = simp append_assoc
+line-written (Commit p) = simp append_assoc
+line-written (Replace p a) = simp append_assoc

@@ -4,7 +4,9 @@ ghost use Rattle.std.specs.Prelude.{◌≡◌, List, Some};
 ghost use Rattle.player.specs.declared.fault.PlayerFault.TheVariants.{Image as AnImage, Text as ATurnText};
 ghost use Rattle.player.specs.declared.fault.TextWhy.TheVariants.{List as AList};
 ghost use Rattle.player.specs.Faults.{list_number, text_number, image_number, text_layer, layer_of, number_of, place_of, layer_word, fault_text};
+ghost use Rattle.player.specs.Image.{fault_at};
 
+use std::error::Error;
 use std::fmt;
 
 #[derive(Clone, Copy, PartialEq, Debug)]
@@ -40,6 +42,13 @@ impl ImageWhy {
         ensures { result ≡ image_number self }
     {
         self as u8
+    }
+
+    // The fault of an image that is refused for this at a place.
+    pub(crate) fn at(self, place: usize) -> ImageFault
+        ensures { result ≡ fault_at self place }
+    {
+        ImageFault { why: self, place }
     }
 }
 
@@ -81,9 +90,7 @@ impl TextWhy {
         ensures { result ≡ text_layer self }
     {
         match self {
-            TextWhy::Verb => Layer::Text,
-            TextWhy::Field => Layer::Text,
-            TextWhy::TooLarge => Layer::Text,
+            TextWhy::Verb | TextWhy::Field | TextWhy::TooLarge => Layer::Text,
             TextWhy::List(_) => Layer::List,
         }
     }
@@ -139,7 +146,7 @@ impl PlayerFault {
         match self {
             PlayerFault::Image(_) => Layer::Image,
             PlayerFault::Text(fault) => fault.why.layer(),
-            PlayerFault::Results { fault: _, turn: _ } => Layer::List,
+            PlayerFault::Results { .. } => Layer::List,
         }
     }
 
@@ -149,7 +156,7 @@ impl PlayerFault {
         match self {
             PlayerFault::Image(fault) => fault.why.number(),
             PlayerFault::Text(fault) => fault.why.number(),
-            PlayerFault::Results { fault, turn: _ } => fault.number(),
+            PlayerFault::Results { fault, .. } => fault.number(),
         }
     }
 
@@ -159,7 +166,7 @@ impl PlayerFault {
         match self {
             PlayerFault::Image(fault) => fault.place,
             PlayerFault::Text(fault) => fault.place,
-            PlayerFault::Results { fault: _, turn } => turn,
+            PlayerFault::Results { turn, .. } => turn,
         }
     }
 }
@@ -190,3 +197,5 @@ impl fmt::Display for PlayerFault {
         write!(f, "fault {layer} {number} {place}")
     }
 }
+
+impl Error for PlayerFault {}

@@ -1,9 +1,10 @@
 // Images: what a memory holds before the first turn. An image is numbers of 32 bits, lowest byte first: how many pairs
 // there are, the pairs of offset and length, and the words that they take.
 ghost use Rattle.std.specs.Prelude.{◌≡◌, ℕ, ◌+◌, ◌*◌, ◌<◌, ◌≤◌, true, ◌∷◌, length, drop, is_ok, IfOk, Ok, MatchOption, slice_index};
+ghost use Rattle.std.specs.Iterator.{YieldsFirst, item_count};
 ghost use Rattle.std.proofs.Math.Seq.{paste};
 ghost use Rattle.memory.specs.Bytes.{words_of};
-ghost use Rattle.player.specs.Image.{first_pairs, pair_conditions, first_fault, answer_unless, words_taken, pair_end, Inside, laid_over, load_answer, loaded_words, pairs_of, image_words, HoldsPairs, OutsidePairs};
+ghost use Rattle.player.specs.Image.{in_pairs, pair_conditions, first_fault, answer_unless, words_taken, pair_end, Inside, laid_over, load_answer, loaded_words, pairs_of, image_words, HoldsPairs, OutsidePairs};
 
 use crate::fault::{ImageFault, ImageWhy};
 use memory::Memory;
@@ -36,59 +37,41 @@ pub fn load_image<M: Memory>(memory: &mut M, image: &[u8]) -> Result<(), ImageFa
 fn check_image(n: u32, image: &[u8]) -> Result<(), ImageFault>
     ensures { result ≡ load_answer n image.now }
 {
-    let wrong_length = ImageFault {
-        why: ImageWhy::Length,
-        place: image.len(),
-    };
+    let wrong_length = ImageWhy::Length.at(image.len());
     let Some((count, rest)) = first_number(image) else {
         return Err(wrong_length);
     };
     if count > MOST_PAIRS {
-        return Err(ImageFault {
-            why: ImageWhy::PairCount,
-            place: 0,
-        });
+        return Err(ImageWhy::PairCount.at(0));
     }
-    if rest.len() < 8 * count as usize {
+    let Some((pairs, words)) = rest.split_at_checked(8 * count as usize) else {
         return Err(wrong_length);
-    }
-    let words = check_pairs(n, count, rest)?;
-    if rest.len() as u64 != 8 * count as u64 + 4 * words {
+    };
+    let taken = check_pairs(n, pairs)?;
+    if words.len() as u64 != 4 * taken {
         return Err(wrong_length);
     }
     Ok(())
 }
 
-// Checks the pairs at the beginning of some bytes, and gives how many words they take.
-fn check_pairs(n: u32, count: u32, bytes: &[u8]) -> Result<u64, ImageFault>
-    requires count_in_bounds { 8 * count ≤ length bytes.now }
-    requires count_bound { count ≤ 64 }
+// Checks some pairs, and gives how many words they take.
+fn check_pairs(n: u32, pairs: &[u8]) -> Result<u64, ImageFault>
+    requires count_bound { length pairs.now ≤ 8 * 64 }
     ensures bound { IfOk result (λ words. words ≤ n) }
-    ensures answer { result ≡ answer_unless (first_fault (pair_conditions n 4 0 (first_pairs count (words_of bytes.now)))) (words_taken (first_pairs count (words_of bytes.now))) }
+    ensures answer { result ≡ answer_unless (first_fault (pair_conditions n 4 0 (in_pairs (words_of pairs.now)))) (words_taken (in_pairs (words_of pairs.now))) }
 {
-    let mut left = bytes;
     let mut end: u64 = 0;
     let mut words: u64 = 0;
-    for i in 0..count {
-        let Some((pair, more)) = first_pair(left) else {
-            unreachable()
-        };
-        let place = 4 + 8 * i as usize;
+    for (i, pair) in Pairs(pairs).enumerate() {
+        let place = 4 + 8 * i;
         if pair.len == 0 || (pair.offset as u64) < end {
-            return Err(ImageFault {
-                why: ImageWhy::PairOrder,
-                place,
-            });
+            return Err(ImageWhy::PairOrder.at(place));
         }
         end = pair.offset as u64 + pair.len as u64;
         if end > n as u64 {
-            return Err(ImageFault {
-                why: ImageWhy::PairOutside,
-                place,
-            });
+            return Err(ImageWhy::PairOutside.at(place));
         }
         words += pair.len as u64;
-        left = more;
     }
     Ok(words)
 }
@@ -106,27 +89,22 @@ fn lay_image<M: Memory>(memory: &mut M, image: &[u8])
     let Some((count, rest)) = first_number(image) else {
         unreachable()
     };
-    lay_pairs(memory, count, rest, &rest[8 * count as usize..]);
+    let (pairs, words) = rest.split_at(8 * count as usize);
+    lay_pairs(memory, pairs, words);
 }
 
 // Puts the words of some pairs into the memory, which has room for them all.
-fn lay_pairs<M: Memory>(memory: &mut M, count: u32, pairs: &[u8], words: &[u8])
+fn lay_pairs<M: Memory>(memory: &mut M, pairs: &[u8], words: &[u8])
     requires sound { M.Memory.sound memory.old }
-    requires count_in_bounds { 8 * count ≤ length pairs.now }
-    requires inside { Inside (length (M.Memory.words memory.old)) (first_pairs count (words_of pairs.now)) }
-    requires pairs_in_bounds { 4 * words_taken (first_pairs count (words_of pairs.now)) ≤ length words.now }
-    ensures after { M.Memory.words memory.new ≡ laid_over (first_pairs count (words_of pairs.now)) (words_of words.now) (M.Memory.words memory.old) }
+    requires inside { Inside (length (M.Memory.words memory.old)) (in_pairs (words_of pairs.now)) }
+    requires pairs_in_bounds { 4 * words_taken (in_pairs (words_of pairs.now)) ≤ length words.now }
+    ensures after { M.Memory.words memory.new ≡ laid_over (in_pairs (words_of pairs.now)) (words_of words.now) (M.Memory.words memory.old) }
     ensures beside { M.Memory.spare memory.new ≡ M.Memory.spare memory.old }
     ensures kept { M.Memory.sound memory.new }
 {
-    let mut left = pairs;
-    let mut rest = words;
-    for _i in 0..count {
-        let Some((pair, more)) = first_pair(left) else {
-            unreachable()
-        };
-        rest = lay_pair(memory, pair, rest);
-        left = more;
+    let mut left = words;
+    for pair in Pairs(pairs) {
+        left = lay_pair(memory, pair, left);
     }
 }
 
@@ -151,6 +129,24 @@ fn lay_pair<'a, M: Memory>(memory: &mut M, pair: Pair, words: &'a [u8]) -> &'a [
         left = more;
     }
     left
+}
+
+// Some pairs, first to last. Bytes that are no whole pair are left out.
+#[derive(Drop)]
+struct Pairs<'a>(&'a [u8]);
+
+impl<'a> Iterator for Pairs<'a> {
+    type Item = Pair;
+
+    ghost next_gives = { YieldsFirst (λ s. in_pairs (words_of s.0.now)) };
+
+    ghost remaining = { item_count (λ s. in_pairs (words_of s.0.now)) };
+
+    fn next(&mut self) -> Option<Pair> {
+        let (pair, rest) = first_pair(self.0)?;
+        self.0 = rest;
+        Some(pair)
+    }
 }
 
 // The first number of some bytes, and the bytes after it.

@@ -1,13 +1,10 @@
 // A field: a number of 32 bits in plain decimal.
-ghost use Rattle.std.specs.Prelude.{◌≡◌, true};
-ghost use Rattle.std.specs.Str.Parse.{digits_value};
+ghost use Rattle.std.specs.Prelude.{◌≡◌};
 ghost use Rattle.std.specs.Str.{all_ascii_digits};
-ghost use Rattle.player.specs.Fields.{plain_decimal, small, field_of};
+ghost use Rattle.player.specs.Fields.{plain_decimal, field_of};
 
 use crate::fault::TextWhy;
-
-// Above every number of 32 bits.
-const ABOVE: u64 = 4294967296;
+use std::str;
 
 // The number that a part of a line writes.
 pub fn number(part: &[u8]) -> Result<u32, TextWhy>
@@ -16,22 +13,11 @@ pub fn number(part: &[u8]) -> Result<u32, TextWhy>
     if !is_plain(part) {
         return Err(TextWhy::Field);
     }
-    plain_value(part)
-}
-
-// The value of plain decimal. Each further digit only makes it larger, so it is known to be too large at once.
-fn plain_value(part: &[u8]) -> Result<u32, TextWhy>
-    requires { all_ascii_digits part.now ≡ true }
-    ensures { result ≡ small (digits_value 10 part.now) }
-{
-    let mut n: u64 = 0;
-    for b in part {
-        n = n * 10 + (*b - b'0') as u64;
-        if n >= ABOVE {
-            return Err(TextWhy::TooLarge);
-        }
-    }
-    Ok(n as u32)
+    let Ok(digits) = str::from_utf8(part) else {
+        unreachable()
+    };
+    // Digits are refused only where the number that they write is too large.
+    digits.parse().map_err(|_| TextWhy::TooLarge)
 }
 
 // Whether the part is plain decimal: digits only, at least one, and no zero before another digit.
@@ -48,10 +34,5 @@ fn is_plain(part: &[u8]) -> bool
 fn all_digits(part: &[u8]) -> bool
     ensures { result ≡ all_ascii_digits part.now }
 {
-    for b in part {
-        if !b.is_ascii_digit() {
-            return false;
-        }
-    }
-    true
+    part.iter().all(|b| b.is_ascii_digit())
 }

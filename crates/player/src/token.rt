@@ -1,6 +1,5 @@
 // Tokens: the verbs, numbers and line ends of a text of turns, each a part of the text with its place.
-ghost use Rattle.std.specs.Prelude.{◌≡◌, ◌^◌, ◌<◌, ◌≤◌, length};
-ghost use Rattle.player.specs.Tokens.{text_left, place_of, end_of, words_seen, part_length, part, after_part, verb_token, next_token, after_next};
+ghost use Rattle.std.specs.Prelude.{◌≡◌, ◌+◌, ◌^◌, ◌<◌, ◌≤◌, length};
 
 #[derive(Clone, Copy)]
 pub enum Token<'a> {
@@ -23,9 +22,12 @@ pub struct Placed<'a> {
 pub struct Tokens<'a> {
     rest: &'a [u8],
     at: usize,
+    ghost place_fits: { at + length rest.now < 2 ^ 64 },
 }
 
 impl<'a> Tokens<'a> {
+    ghost use Rattle.player.specs.Tokens.{text_left, place_of, end_of, words_seen, part_length, part, after_part, verb_token, next_token, after_next};
+
     pub fn new(text: &'a [u8]) -> Tokens<'a>
         ensures text { text_left result ≡ text.now }
         ensures place { place_of result ≡ 0 }
@@ -35,7 +37,6 @@ impl<'a> Tokens<'a> {
 
     // Takes the verb of the next line, which may be empty, or gives none at the end of the text.
     pub fn verb(&mut self) -> Option<Placed<'a>>
-        requires { end_of self.old < 2 ^ 64 }
         ensures token { words_seen result ≡ verb_token (place_of self.old) (text_left self.old) }
         ensures text { text_left self.new ≡ after_part (text_left self.old) }
         ensures place { end_of self.new ≡ end_of self.old }
@@ -50,18 +51,14 @@ impl<'a> Tokens<'a> {
 
     // Takes the token after a verb or a number, or gives none at the end of the text.
     pub fn next(&mut self) -> Option<Placed<'a>>
-        requires { end_of self.old < 2 ^ 64 }
         ensures token { words_seen result ≡ next_token (place_of self.old) (text_left self.old) }
         ensures text { text_left self.new ≡ after_next (text_left self.old) }
         ensures place { end_of self.new ≡ end_of self.old }
     {
-        let rest = self.rest;
-        let [first, more @ ..] = rest else {
-            return None;
-        };
+        let (first, rest) = self.rest.split_first()?;
         let at = self.at;
         self.at = at + 1;
-        self.rest = more;
+        self.rest = rest;
         if *first == b'\n' {
             let token = Token::LineEnd;
             return Some(Placed { token, at });
@@ -72,28 +69,24 @@ impl<'a> Tokens<'a> {
 
     // Takes what comes before the next space or line end.
     fn part(&mut self) -> &'a [u8]
-        requires { end_of self.old < 2 ^ 64 }
         ensures value { result.now ≡ part (text_left self.old) }
         ensures text { text_left self.new ≡ after_part (text_left self.old) }
         ensures place { end_of self.new ≡ end_of self.old }
     {
-        let rest = self.rest;
-        let n = part_length(rest);
-        self.at += n;
-        self.rest = &rest[n..];
-        &rest[0..n]
+        let (part, rest) = self.rest.split_at(self.part_length());
+        self.at += part.len();
+        self.rest = rest;
+        part
     }
-}
 
-// How many bytes come before the first space or line end.
-fn part_length(text: &[u8]) -> usize
-    ensures value { result ≡ part_length text.now }
-    ensures bound { result ≤ length text.now }
-{
-    for (i, b) in text.iter().enumerate() {
-        if *b == b' ' || *b == b'\n' {
-            return i;
-        }
+    // How many bytes come before the next space or line end.
+    fn part_length(&self) -> usize
+        ensures value { result ≡ part_length (text_left self.now) }
+        ensures bound { result ≤ length (text_left self.now) }
+    {
+        let text = self.rest;
+        text.iter()
+            .position(|b| *b == b' ' || *b == b'\n')
+            .unwrap_or(text.len())
     }
-    text.len()
 }

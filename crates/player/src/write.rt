@@ -13,6 +13,8 @@ pub fn write_turns(heap: Global, turns: &[Turn]) -> Result<String, AllocError>
 {
     let mut text = String::new(heap);
     for turn in turns {
+        // A line of its own for each turn: passed by value, it brings along that its fields are numbers of 32 bits, which
+        // reading back needs.
         let line = write_turn(heap, *turn)?;
         text.push_str(line.as_str())?;
     }
@@ -24,12 +26,5 @@ pub fn write_turn(heap: Global, turn: Turn) -> Result<String, AllocError>
     ensures text { IfOk result (λ s. string_bytes s ≡ line_of turn) }
     ensures small { Small turn }
 {
-    match turn {
-        Turn::Start { p } => format!(in heap; "start {p}\n"),
-        Turn::Load { p, a } => format!(in heap; "load {p} {a}\n"),
-        Turn::Store { p, a, w } => format!(in heap; "store {p} {a} {w}\n"),
-        Turn::Squash { p } => format!(in heap; "squash {p}\n"),
-        Turn::Commit { p } => format!(in heap; "commit {p}\n"),
-        Turn::Replace { p, a } => format!(in heap; "replace {p} {a}\n"),
-    }
+    format!(in heap; "{turn}\n")
 }

@@ -1,6 +1,8 @@
 // A turn: what a processor asks of a version store.
-ghost use Rattle.std.specs.Prelude.{◌≡◌};
-ghost use Rattle.versions.specs.Turns.{processor_of};
+ghost use Rattle.std.specs.Prelude.{◌≡◌, Some};
+ghost use Rattle.versions.specs.Turns.{processor_of, turn_text};
+
+use std::fmt;
 
 // p is a processor, a an address, w a word; any numbers of 32 bits.
 #[derive(Clone, Copy)]
@@ -25,6 +27,22 @@ impl Turn {
             Turn::Squash { p } => p,
             Turn::Commit { p } => p,
             Turn::Replace { p, a: _ } => p,
+        }
+    }
+}
+
+// A turn as it is written: its verb and its fields, one space between.
+impl fmt::Display for Turn {
+    ghost output = { λ t. Some (turn_text t) };
+
+    fn fmt<W: fmt::Write>(&self, f: &mut fmt::Formatter<W>) -> fmt::Result {
+        match self {
+            Turn::Start { p } => write!(f, "start {p}"),
+            Turn::Load { p, a } => write!(f, "load {p} {a}"),
+            Turn::Store { p, a, w } => write!(f, "store {p} {a} {w}"),
+            Turn::Squash { p } => write!(f, "squash {p}"),
+            Turn::Commit { p } => write!(f, "commit {p}"),
+            Turn::Replace { p, a } => write!(f, "replace {p} {a}"),
         }
     }
 }
