@@ -1,46 +1,40 @@
 -- Laws of the central buffer's rows: what a changed row does to the table, that a set always has room, and that the rows
 -- stay good.
-use Rattle.std.proofs.Common.{◌≡◌, ℕ, zero, suc, ◌%◌, ◌<◌, ◌≤◌, Bool, true, false, cond, ◌&&◌, ◌||◌, eqb, ◌≢◌, ◌⊎◌, List, [], ◌∷◌, map, length, get_or, set, replicate, Some, None, Option, sym, refl, ap, ◌∙◌, subst, inl, inr, ⊎_elim, arith}
+use Rattle.std.proofs.Common.{◌≡◌, ℕ, zero, suc, ◌%◌, ◌<◌, ◌≤◌, Bool, true, false, cond, ◌&&◌, eqb, ◌≢◌, ◌⊎◌, List, [], ◌∷◌, map, length, get_or, set, replicate, Some, None, Option, unwrap_or, IsSome, sym, refl, ap, ◌∙◌, subst, inl, inr, ⊎_elim, arith}
 use mathlib.Core.Path.{fun_ext}
-use Rattle.std.proofs.lemmas.List.{length-set, length-map, length-replicate, get_or-set_same, get_or-set_other, get_or_past, get_or-map, get_or-replicate}
-use Rattle.std.proofs.lemmas.Bool.{eqb-true, eqb-false, eq-eqb, ne_eqb, cases_eq, cases_lt, cond-true, cond-false, true≢false, not-true, not-false, and_parts}
+use Rattle.std.specs.List.{find, list_any, position, position_or_len}
+use Rattle.std.specs.Option.{option_map, option_or}
+use Rattle.std.proofs.lemmas.List.{length-set, length-map, length-replicate, get_or-set_same, get_or-set_other, get_or_past, get_or_default, get_or-map, get_or-replicate}
+use Rattle.std.proofs.lemmas.List.Folds.{Any-from_list_any, list_any_at}
+use Rattle.std.proofs.lemmas.List.Sums.{fails_before_first}
+use Rattle.std.proofs.lemmas.List.Quantifiers.{position-Some}
+use Rattle.std.proofs.lemmas.Bool.{eqb-true, eqb-false, eq-eqb, ne_eqb, lt-ltb, cases_eq, cases_lt, cond-true, cond-false, true≢false, not-true, not-false, and_parts}
 use Rattle.std.proofs.lemmas.Bool.Decides.{nat_tests}
 use Rattle.buffer.specs.declared.rows.Row.{Row}
-use Rattle.buffer.specs.declared.rows.Rows.{Rows}
 use Rattle.versions.specs.declared.version.Version.{Version}
-use Rattle.versions.specs.Cuts.{any_below}
 use Rattle.versions.specs.Versions.{no_version, is_held}
 use Rattle.versions.specs.Tables.{empty_table, with_version, without, HeldIn}
-use Rattle.versions.proofs.Classes.{unheld-none, any_below-never}
-use Rattle.buffer.specs.Rows.{no_row, in_row, row_with, is_free, in_rows, held_address, first_place, without_row, table_in, GoodSet, GoodRows, RowFor}
+use Rattle.versions.proofs.Classes.{unheld-none}
+use Rattle.buffer.specs.Sets.{no_row, in_row, row_with, is_free, in_rows, in_sets, held_address, without_row, GoodSet, GoodSets, RowFor}
+use Rattle.buffer.specs.Rows.{HoldsNoOther}
 
--- the first row that passes
-pub first_place-passes : (f : Row → Bool) (rs : List Row) → first_place f rs < length rs → f (get_or rs (first_place f rs) no_row) ≡ true
-first_place-passes f [] h = absurd (omega arith)
-first_place-passes f (r ∷ rs) h = go (f r) refl h (λ k. first_place-passes f rs k)
-  where
-    go : (t : Bool) → f r ≡ t → cond t 0 (suc (first_place f rs)) < suc (length rs) → (first_place f rs < length rs → f (get_or rs (first_place f rs) no_row) ≡ true)
-        → f (get_or (r ∷ rs) (cond t 0 (suc (first_place f rs))) no_row) ≡ true
-    go true e h again = e
-    go false e h again = again (omega arith)
+-- the version, and the address, of the first row that passes, row by row
+found-cons : {A : Type 0} (f : Row → A) (d : A) (t : Bool) (r : Row) (o : Option Row) → unwrap_or (option_map f (cond t (Some r) o)) d ≡ cond t (f r) (unwrap_or (option_map f o) d)
+found-cons f d true r o = refl
+found-cons f d false r o = refl
 
-pub first_place-none : (f : Row → Bool) (rs : List Row) → length rs ≤ first_place f rs → (i : ℕ) → i < length rs → f (get_or rs i no_row) ≡ false
-first_place-none f [] h i l = absurd (omega arith)
-first_place-none f (r ∷ rs) h i l = go (f r) refl h i l (λ k j m. first_place-none f rs k j m)
-  where
-    go : (t : Bool) → f r ≡ t → suc (length rs) ≤ cond t 0 (suc (first_place f rs)) → (i : ℕ) → i < suc (length rs)
-        → (length rs ≤ first_place f rs → (j : ℕ) → j < length rs → f (get_or rs j no_row) ≡ false) → f (get_or (r ∷ rs) i no_row) ≡ false
-    go true e h i l again = absurd (omega arith)
-    go false e h zero l again = e
-    go false e h (suc i) l again = again (omega arith) i (omega arith)
+in-cons : (r : Row) (rs : List Row) (p a : ℕ) → in_rows (r ∷ rs) p a ≡ cond (eqb r.address a && is_held (in_row r p)) (in_row r p) (in_rows rs p a)
+in-cons r rs p a = found-cons (λ x. in_row x p) no_version (eqb r.address a && is_held (in_row r p)) r (find (λ x. eqb x.address a && is_held (in_row x p)) rs)
 
-pub first_place-le : (f : Row → Bool) (rs : List Row) → first_place f rs ≤ length rs
-first_place-le f [] = omega arith
-first_place-le f (r ∷ rs) = go (f r) (first_place-le f rs)
-  where
-    go : (t : Bool) → first_place f rs ≤ length rs → cond t 0 (suc (first_place f rs)) ≤ suc (length rs)
-    go true h = omega arith
-    go false h = omega arith
+-- where no row passes
+position-none : (f : Row → Bool) (rs : List Row) → position f rs ≡ None → (i : ℕ) → i < length rs → f (get_or rs i no_row) ≡ false
+position-none f rs h i l =
+    ⊎_elim
+    (λ (k : position_or_len f rs < length rs).
+    let t : position f rs ≡ Some (position_or_len f rs) = ap (λ (t : Bool). cond t (Some (position_or_len f rs)) None) (lt-ltb (position_or_len f rs) (length rs) k) in
+    let z : ◌≡◌ {A = ℕ} 0 1 = cc in absurd (omega arith))
+    (λ (k : length rs ≤ position_or_len f rs). fails_before_first f rs i no_row (omega arith))
+    (cases_lt (position_or_len f rs) (length rs))
 
 -- where p holds no row of a set, it has no version there
 pub rows-unheld : (rs : List Row) (p b : ℕ) → ((i : ℕ) → i < length rs → is_held (in_row (get_or rs i no_row) p) ≡ false) → in_rows rs p b ≡ no_version
@@ -48,15 +42,15 @@ rows-unheld [] p b h = refl
 rows-unheld (r ∷ rs) p b h =
     let first : is_held (in_row r p) ≡ false = h 0 (omega arith) in
     let skip : (eqb r.address b && is_held (in_row r p)) ≡ false = grind (arith, nat_tests) in
-    cond-false (eqb r.address b && is_held (in_row r p)) (in_row r p) (in_rows rs p b) skip ∙ rows-unheld rs p b (λ i l. h (suc i) (omega arith))
+    in-cons r rs p b ∙ (cond-false (eqb r.address b && is_held (in_row r p)) (in_row r p) (in_rows rs p b) skip ∙ rows-unheld rs p b (λ i l. h (suc i) (omega arith)))
 
 -- a row that p holds shows
 pub row_shows : (rs : List Row) (p i : ℕ) → i < length rs → is_held (in_row (get_or rs i no_row) p) ≡ true → is_held (in_rows rs p (get_or rs i no_row).address) ≡ true
 row_shows [] p i l h = absurd (omega arith)
 row_shows (r ∷ rs) p zero l h =
     let here : (eqb r.address r.address && is_held (in_row r p)) ≡ true = rw (eq-eqb r.address r.address refl) h in
-    ap is_held (cond-true (eqb r.address r.address && is_held (in_row r p)) (in_row r p) (in_rows rs p r.address) here) ∙ h
-row_shows (r ∷ rs) p (suc i) l h = go (eqb r.address (get_or rs i no_row).address && is_held (in_row r p)) refl (row_shows rs p i (omega arith) h)
+    ap is_held (in-cons r rs p r.address ∙ cond-true (eqb r.address r.address && is_held (in_row r p)) (in_row r p) (in_rows rs p r.address) here) ∙ h
+row_shows (r ∷ rs) p (suc i) l h = ap is_held (in-cons r rs p (get_or rs i no_row).address) ∙ go (eqb r.address (get_or rs i no_row).address && is_held (in_row r p)) refl (row_shows rs p i (omega arith) h)
   where
     go : (t : Bool) → (eqb r.address (get_or rs i no_row).address && is_held (in_row r p)) ≡ t → is_held (in_rows rs p (get_or rs i no_row).address) ≡ true
         → is_held (cond t (in_row r p) (in_rows rs p (get_or rs i no_row).address)) ≡ true
@@ -71,38 +65,39 @@ held_none rs p b h = ap is_held (rows-unheld rs p b (unheld rs h))
     unheld [] h i l = absurd (omega arith)
     unheld (r ∷ rs) h i l = go (is_held (in_row r p)) refl h i l (λ k j m. unheld rs k j m)
       where
-        go : (t : Bool) → is_held (in_row r p) ≡ t → cond t (Some r.address) (held_address rs p) ≡ None → (i : ℕ) → i < suc (length rs)
+        go : (t : Bool) → is_held (in_row r p) ≡ t → option_map (λ x. x.address) (cond t (Some r) (find (λ x. is_held (in_row x p)) rs)) ≡ None → (i : ℕ) → i < suc (length rs)
             → (held_address rs p ≡ None → (j : ℕ) → j < length rs → is_held (in_row (get_or rs j no_row) p) ≡ false) → is_held (in_row (get_or (r ∷ rs) i no_row) p) ≡ false
-        go true e h i l again = let z : ◌≡◌ {A = ℕ} 0 1 = cc in absurd (omega arith)
+        go true e h i l again = cc
         go false e h zero l again = e
         go false e h (suc i) l again = again h i (omega arith)
 
 pub held-some : (rs : List Row) (p b : ℕ) → held_address rs p ≡ Some b
     → (i : ℕ) × (i < length rs) × (is_held (in_row (get_or rs i no_row) p) ≡ true) × ((get_or rs i no_row).address ≡ b)
-held-some [] p b h = let z : ◌≡◌ {A = ℕ} 0 1 = cc in absurd (omega arith)
+held-some [] p b h = absurd (cc)
 held-some (r ∷ rs) p b h = go (is_held (in_row r p)) refl h (λ k. held-some rs p b k)
   where
-    go : (t : Bool) → is_held (in_row r p) ≡ t → cond t (Some r.address) (held_address rs p) ≡ Some b
+    go : (t : Bool) → is_held (in_row r p) ≡ t → option_map (λ x. x.address) (cond t (Some r) (find (λ x. is_held (in_row x p)) rs)) ≡ Some b
         → (held_address rs p ≡ Some b → (i : ℕ) × (i < length rs) × (is_held (in_row (get_or rs i no_row) p) ≡ true) × ((get_or rs i no_row).address ≡ b))
         → (i : ℕ) × (i < suc (length rs)) × (is_held (in_row (get_or (r ∷ rs) i no_row) p) ≡ true) × ((get_or (r ∷ rs) i no_row).address ≡ b)
     go true e h again = let same : r.address ≡ b = cc in (0, omega arith, e, same)
     go false e h again = let x = again h in (suc x.0, omega (arith, x.1), x.2, x.3)
 
--- nobody holds a free row
-any_below-find : (f : ℕ → Bool) (n : ℕ) → any_below f n ≡ true → (q : ℕ) × (q < n) × (f q ≡ true)
-any_below-find f zero h = absurd (true≢false (sym h))
-any_below-find f (suc n) h = go (f n) refl h (λ k. any_below-find f n k)
-  where
-    go : (t : Bool) → f n ≡ t → (t || any_below f n) ≡ true → (any_below f n ≡ true → (q : ℕ) × (q < n) × (f q ≡ true)) → (q : ℕ) × (q < suc n) × (f q ≡ true)
-    go true e h again = (n, omega arith, e)
-    go false e h again = let x = again h in (x.0, omega (arith, x.1), x.2)
-
-pub free-unheld : (r : Row) → length r.versions ≡ 4 → is_free r ≡ true → (q : ℕ) → is_held (in_row r q) ≡ false
-free-unheld r n free q =
+-- nobody holds a free row, and somebody one that is not free
+pub free-unheld : (r : Row) → is_free r ≡ true → (q : ℕ) → is_held (in_row r q) ≡ false
+free-unheld r free q =
     ⊎_elim
-    (λ (l : q < 4). any_below-never (λ x. is_held (in_row r x)) 4 (not-true (any_below (λ x. is_held (in_row r x)) 4) free) q l)
-    (λ (g : 4 ≤ q). ap is_held (get_or_past r.versions q no_version (omega arith)))
-    (cases_lt q 4)
+    (λ (l : q < length r.versions). go l (is_held (in_row r q)) refl)
+    (λ (g : length r.versions ≤ q). ap is_held (get_or_past r.versions q no_version g))
+    (cases_lt q (length r.versions))
+  where
+    go : q < length r.versions → (t : Bool) → is_held (in_row r q) ≡ t → t ≡ false
+    go l true e = absurd (true≢false (sym (list_any_at is_held r.versions q no_version l e) ∙ not-true (list_any is_held r.versions) free))
+    go l false e = refl
+
+taken-held : (r : Row) → is_free r ≡ false → (q : ℕ) × (q < length r.versions) × (is_held (in_row r q) ≡ true)
+taken-held r taken =
+    let x = Any-from_list_any is_held r.versions (not-false (list_any is_held r.versions) taken) in
+    (x.0, x.2, ap is_held (get_or_default r.versions x.0 no_version x.1 x.2 ∙ x.3) ∙ x.4)
 
 -- p's version of a put into the row at place j: the table changes there alone
 pub put-rows : (rs : List Row) (j p a : ℕ) (v : Version) → j < length rs → p < length (get_or rs j no_row).versions
@@ -127,14 +122,14 @@ put-rows (r ∷ rs) zero p a v l w fits only q b = go (eqb q p) refl
         (λ (e : r.address ≡ a). rw (e, other))
         (λ (f : (x : ℕ) → is_held (in_row r x) ≡ false). let g = f p in grind (arith, nat_tests))
         fits in
-        cond-false (eqb r.address b && is_held (in_row r p)) (in_row r p) (in_rows rs p b) skip ∙ rest
+        in-cons r rs p b ∙ (cond-false (eqb r.address b && is_held (in_row r p)) (in_row r p) (in_rows rs p b) skip ∙ rest)
 
     mine : (t : Bool) → eqb a b ≡ t → (u : Bool) → is_held v ≡ u → cond (t && u) v (in_rows rs p b) ≡ cond t v (in_rows (r ∷ rs) p b)
     mine true x true y = refl
     mine true x false y = rest ∙ sym (unheld-none v y)
     mine false x u y = rest ∙ sym (before x)
 
-    theirs : eqb q p ≡ false → cond (eqb a b && is_held (in_row r q)) (in_row r q) (in_rows rs q b) ≡ in_rows (r ∷ rs) q b
+    theirs : eqb q p ≡ false → cond (eqb a b && is_held (in_row r q)) (in_row r q) (in_rows rs q b) ≡ cond (eqb r.address b && is_held (in_row r q)) (in_row r q) (in_rows rs q b)
     theirs other =
         ⊎_elim
         (λ (e : r.address ≡ a). ap (λ (x : ℕ). cond (eqb x b && is_held (in_row r q)) (in_row r q) (in_rows rs q b)) (sym e))
@@ -151,14 +146,16 @@ put-rows (r ∷ rs) zero p a v l w fits only q b = go (eqb q p) refl
         let same : p ≡ q = sym (eqb-true q p x) in
         let new : in_row (row_with r p a v) p ≡ v = get_or-set_same r.versions p v no_version w in
         subst (λ (y : ℕ). in_rows (row_with r p a v ∷ rs) y b ≡ cond (eqb a b) v (in_rows (r ∷ rs) y b)) same
-        (ap (λ (u : Version). cond (eqb a b && is_held u) u (in_rows rs p b)) new ∙ mine (eqb a b) refl (is_held v) refl)
+        (in-cons (row_with r p a v) rs p b ∙ ap (λ (u : Version). cond (eqb a b && is_held u) u (in_rows rs p b)) new ∙ mine (eqb a b) refl (is_held v) refl)
     go false x =
         let old : in_row (row_with r p a v) q ≡ in_row r q = get_or-set_other r.versions p q v no_version (eqb-false q p x) in
-        ap (λ (u : Version). cond (eqb a b && is_held u) u (in_rows rs q b)) old ∙ theirs x
+        in-cons (row_with r p a v) rs q b ∙ (ap (λ (u : Version). cond (eqb a b && is_held u) u (in_rows rs q b)) old ∙ theirs x) ∙ sym (in-cons r rs q b)
 put-rows (r ∷ rs) (suc j) p a v l w fits only q b =
-    ap (λ (u : Version). cond (eqb r.address b && is_held (in_row r q)) (in_row r q) u)
+    in-cons r (set rs j (row_with (get_or rs j no_row) p a v)) q b
+    ∙ (ap (λ (u : Version). cond (eqb r.address b && is_held (in_row r q)) (in_row r q) u)
     (put-rows rs j p a v (omega arith) w fits (λ i k h. let z : suc i ≡ suc j = only (suc i) (omega arith) h in omega arith) q b)
-    ∙ go (eqb q p) refl (eqb a b)
+    ∙ (go (eqb q p) refl (eqb a b)
+    ∙ ap (cond (eqb q p && eqb a b) v) (sym (in-cons r rs q b))))
   where
     free : is_held (in_row r p) ≡ false
     free = not_first (is_held (in_row r p)) refl
@@ -227,31 +224,22 @@ put-good c rs j p a v g x class =
     }
 
 -- a set in which p holds nothing has a free row: the other three tasks hold one each at most
-pub room : (c : ℕ) (rs : List Row) (p : ℕ) → GoodSet c rs → p < 4 → ((i : ℕ) → i < 4 → is_held (in_row (get_or rs i no_row) p) ≡ false) → first_place is_free rs < 4
-room c rs p g l none =
-    ⊎_elim
-    (λ (h : first_place is_free rs < 4). h)
-    (λ (h : 4 ≤ first_place is_free rs).
+pub room : (c : ℕ) (rs : List Row) (p : ℕ) → GoodSet c rs → p < 4 → ((i : ℕ) → i < 4 → is_held (in_row (get_or rs i no_row) p) ≡ false) → position is_free rs ≡ None → ⊥
+room c rs p g l none full =
     let taken : (i : ℕ) → i < 4 → (q : ℕ) × (q < 4) × (is_held (in_row (get_or rs i no_row) q) ≡ true) =
-    λ i k. any_below-find (λ q. is_held (in_row (get_or rs i no_row) q)) 4
-    (not-false (any_below (λ q. is_held (in_row (get_or rs i no_row) q)) 4) (first_place-none is_free rs (omega (arith, g.count)) i (omega (arith, g.count)))) in
+    λ i k. let x = taken-held (get_or rs i no_row) (position-none is_free rs full i (omega (arith, g.count))) in (x.0, omega (arith, x.1, g.wide i k), x.2) in
     let w = taken 0 (omega arith) in
     let x = taken 1 (omega arith) in
     let y = taken 2 (omega arith) in
     let z = taken 3 (omega arith) in
     let other : (i : ℕ) → i < 4 → (q : ℕ) → is_held (in_row (get_or rs i no_row) q) ≡ true → q ≡ p → ⊥ =
     λ i k q e s. true≢false (sym e ∙ (ap (λ (r : ℕ). is_held (in_row (get_or rs i no_row) r)) s ∙ none i k)) in
-    let apart : (i k : ℕ) → i < 4 → k < 4 → (q r : ℕ) → is_held (in_row (get_or rs i no_row) q) ≡ true → is_held (in_row (get_or rs k no_row) r) ≡ true → q ≡ r → i ≡ k =
-    λ i k m n q r e f s. g.one r i k m n (subst (λ (t : ℕ). is_held (in_row (get_or rs i no_row) t) ≡ true) s e) f in
-    let wx : w.0 ≡ x.0 → ⊥ = λ s. let t : 0 ≡ 1 = apart 0 1 (omega arith) (omega arith) w.0 x.0 w.2 x.2 s in omega arith in
-    let wy : w.0 ≡ y.0 → ⊥ = λ s. let t : 0 ≡ 2 = apart 0 2 (omega arith) (omega arith) w.0 y.0 w.2 y.2 s in omega arith in
-    let wz : w.0 ≡ z.0 → ⊥ = λ s. let t : 0 ≡ 3 = apart 0 3 (omega arith) (omega arith) w.0 z.0 w.2 z.2 s in omega arith in
-    let xy : x.0 ≡ y.0 → ⊥ = λ s. let t : 1 ≡ 2 = apart 1 2 (omega arith) (omega arith) x.0 y.0 x.2 y.2 s in omega arith in
-    let xz : x.0 ≡ z.0 → ⊥ = λ s. let t : 1 ≡ 3 = apart 1 3 (omega arith) (omega arith) x.0 z.0 x.2 z.2 s in omega arith in
-    let yz : y.0 ≡ z.0 → ⊥ = λ s. let t : 2 ≡ 3 = apart 2 3 (omega arith) (omega arith) y.0 z.0 y.2 z.2 s in omega arith in
-    absurd (five w.0 x.0 y.0 z.0 p w.1 x.1 y.1 z.1 l wx wy wz xy xz yz
-    (other 0 (omega arith) w.0 w.2) (other 1 (omega arith) x.0 x.2) (other 2 (omega arith) y.0 y.2) (other 3 (omega arith) z.0 z.2)))
-    (cases_lt (first_place is_free rs) 4)
+    let apart : (i k : ℕ) → i < k → k < 4 → (q r : ℕ) → is_held (in_row (get_or rs i no_row) q) ≡ true → is_held (in_row (get_or rs k no_row) r) ≡ true → q ≡ r → ⊥ =
+    λ i k m n q r e f s. let t : i ≡ k = g.one r i k (omega arith) n (subst (λ (t : ℕ). is_held (in_row (get_or rs i no_row) t) ≡ true) s e) f in omega arith in
+    five w.0 x.0 y.0 z.0 p w.1 x.1 y.1 z.1 l
+    (apart 0 1 (omega arith) (omega arith) w.0 x.0 w.2 x.2) (apart 0 2 (omega arith) (omega arith) w.0 y.0 w.2 y.2) (apart 0 3 (omega arith) (omega arith) w.0 z.0 w.2 z.2)
+    (apart 1 2 (omega arith) (omega arith) x.0 y.0 x.2 y.2) (apart 1 3 (omega arith) (omega arith) x.0 z.0 x.2 z.2) (apart 2 3 (omega arith) (omega arith) y.0 z.0 y.2 z.2)
+    (other 0 (omega arith) w.0 w.2) (other 1 (omega arith) x.0 x.2) (other 2 (omega arith) y.0 y.2) (other 3 (omega arith) z.0 z.2)
   where
     five : (w x y z p : ℕ) → w < 4 → x < 4 → y < 4 → z < 4 → p < 4 → (w ≡ x → ⊥) → (w ≡ y → ⊥) → (w ≡ z → ⊥) → (x ≡ y → ⊥) → (x ≡ z → ⊥) → (y ≡ z → ⊥)
         → (w ≡ p → ⊥) → (x ≡ p → ⊥) → (y ≡ p → ⊥) → (z ≡ p → ⊥) → ⊥
@@ -259,94 +247,93 @@ room c rs p g l none =
 
 -- the three ways to a row for p's version of a
 module _ (rs : List Row) (p a : ℕ) (g : GoodSet (a % 16) rs) (l : p < 4) (mine : (i : ℕ) → i < 4 → is_held (in_row (get_or rs i no_row) p) ≡ true → (get_or rs i no_row).address ≡ a) where
-  pub row-held : first_place (λ x. is_held (in_row x p)) rs < length rs → RowFor rs p a (first_place (λ x. is_held (in_row x p)) rs)
-  row-held h =
-      let j = first_place (λ x. is_held (in_row x p)) rs in
-      let w : j < 4 = omega (arith, g.count) in
-      let held : is_held (in_row (get_or rs j no_row) p) ≡ true = first_place-passes (λ x. is_held (in_row x p)) rs h in
-      record { within = w; fits = inl (mine j w held); only = λ i k e. g.one p i j k w e held }
+  none-held : position (λ r. is_held (in_row r p)) rs ≡ None → (i : ℕ) → i < 4 → is_held (in_row (get_or rs i no_row) p) ≡ false
+  none-held h i k = position-none (λ r. is_held (in_row r p)) rs h i (omega (arith, g.count))
 
-  none-held : length rs ≤ first_place (λ x. is_held (in_row x p)) rs → (i : ℕ) → i < 4 → is_held (in_row (get_or rs i no_row) p) ≡ false
-  none-held h i k = first_place-none (λ x. is_held (in_row x p)) rs h i (omega (arith, g.count))
+  pub some-row : (o : Option ℕ) → o ≡ option_or (option_or (position (λ r. is_held (in_row r p)) rs) (position (λ r. eqb r.address a) rs)) (position is_free rs) → IsSome o
+  some-row (Some j) e = refl
+  some-row None e = go (position (λ r. is_held (in_row r p)) rs) refl (position (λ r. eqb r.address a) rs) (position is_free rs) refl e
+    where
+      go : (held : Option ℕ) → position (λ r. is_held (in_row r p)) rs ≡ held → (same free : Option ℕ) → position is_free rs ≡ free → None ≡ option_or (option_or held same) free → IsSome {T = ℕ} None
+      go (Some j) h same free f e = cc
+      go None h (Some j) free f e = cc
+      go None h None (Some j) f e = cc
+      go None h None None f e = absurd (room (a % 16) rs p g l (none-held h) f)
 
-  pub row_same : length rs ≤ first_place (λ x. is_held (in_row x p)) rs → first_place (λ x. eqb x.address a) rs < length rs → RowFor rs p a (first_place (λ x. eqb x.address a) rs)
-  row_same n h = record {
-    within = omega (arith, g.count);
-    fits = inl (eqb-true (get_or rs (first_place (λ x. eqb x.address a) rs) no_row).address a (first_place-passes (λ x. eqb x.address a) rs h));
-    only = λ i k e. absurd (true≢false (sym e ∙ none-held n i k));
-  }
-
-  pub row-free : length rs ≤ first_place (λ x. is_held (in_row x p)) rs → RowFor rs p a (first_place is_free rs)
-  row-free n =
-      let w : first_place is_free rs < 4 = room (a % 16) rs p g l (none-held n) in
-      record {
-        within = w;
-        fits = inr (first_place-passes is_free rs (omega (arith, g.count)));
-        only = λ i k e. absurd (true≢false (sym e ∙ none-held n i k));
-      }
-
--- a set of the table
-pub set-good : (rows : Rows) (c : ℕ) → GoodRows rows → c < 16 → GoodSet c (get_or rows.sets c [])
-set-good rows c g l = g.each c l
+  pub row-fits : (j : ℕ) → option_or (option_or (position (λ r. is_held (in_row r p)) rs) (position (λ r. eqb r.address a) rs)) (position is_free rs) ≡ Some j → RowFor rs p a j
+  row-fits j e = go (position (λ r. is_held (in_row r p)) rs) refl (position (λ r. eqb r.address a) rs) refl (position is_free rs) refl e
+    where
+      go : (held : Option ℕ) → position (λ r. is_held (in_row r p)) rs ≡ held → (same : Option ℕ) → position (λ r. eqb r.address a) rs ≡ same → (free : Option ℕ) → position is_free rs ≡ free
+          → option_or (option_or held same) free ≡ Some j → RowFor rs p a j
+      go (Some i) h same s free f e =
+          let x = position-Some (λ r. is_held (in_row r p)) rs j no_row (h ∙ e) in
+          let w : j < 4 = omega (arith, g.count, x.0) in
+          record { within = w; fits = inl (mine j w x.1); only = λ k m n. g.one p k j m w n x.1 }
+      go None h (Some i) s free f e =
+          let x = position-Some (λ r. eqb r.address a) rs j no_row (s ∙ e) in
+          record { within = omega (arith, g.count, x.0); fits = inl (eqb-true (get_or rs j no_row).address a x.1); only = λ k m n. absurd (true≢false (sym n ∙ none-held h k m)) }
+      go None h None s (Some i) f e =
+          let x = position-Some is_free rs j no_row (f ∙ e) in
+          record { within = omega (arith, g.count, x.0); fits = inr x.1; only = λ k m n. absurd (true≢false (sym n ∙ none-held h k m)) }
+      go None h None s None f e = absurd (cc)
 
 -- p's rows of a's class are of address a, where p holds no other address of the class
-pub rows-mine : (rows : Rows) (p a : ℕ) → GoodRows rows → ((b : ℕ) → is_held (table_in rows p b) ≡ true → b % 16 ≡ a % 16 → b ≡ a)
-    → (i : ℕ) → i < 4 → is_held (in_row (get_or (get_or rows.sets (a % 16) []) i no_row) p) ≡ true → (get_or (get_or rows.sets (a % 16) []) i no_row).address ≡ a
-rows-mine rows p a g class i l h =
-    let s = g.each (a % 16) (omega arith) in
-    let rs = get_or rows.sets (a % 16) [] in
-    let same : (get_or rs i no_row).address % 16 ≡ a % 16 = s.class p i l h in
+pub rows-mine : (sets : List (List Row)) (c p a : ℕ) → c ≡ a % 16 → GoodSets sets → HoldsNoOther (in_sets sets p) a
+    → (i : ℕ) → i < 4 → is_held (in_row (get_or (get_or sets c []) i no_row) p) ≡ true → (get_or (get_or sets c []) i no_row).address ≡ a
+rows-mine sets c p a class_is g class i l h =
+    let s = g.each c (omega arith) in
+    let rs = get_or sets c [] in
+    let same : (get_or rs i no_row).address % 16 ≡ c = s.class p i l h in
     class (get_or rs i no_row).address
-    (ap (λ (c : ℕ). is_held (in_rows (get_or rows.sets c []) p (get_or rs i no_row).address)) same ∙ row_shows rs p i (omega (arith, s.count)) h) same
+    (ap (λ (d : ℕ). is_held (in_rows (get_or sets d []) p (get_or rs i no_row).address)) same ∙ row_shows rs p i (omega (arith, s.count)) h) (same ∙ class_is)
 
 -- the table after p's version of a was put into its set
-pub put-table : (rows : Rows) (later : List (List Row)) (j p a : ℕ) (v : Version) → GoodRows rows → p < 4 → RowFor (get_or rows.sets (a % 16) []) p a j
-    → later ≡ set rows.sets (a % 16) (set (get_or rows.sets (a % 16) []) j (row_with (get_or (get_or rows.sets (a % 16) []) j no_row) p a v))
-    → (table_in (record { sets = later }) ≡ with_version (table_in rows) p a v) × GoodRows (record { sets = later })
-put-table rows later j p a v g l x is =
-    let c = a % 16 in
-    let rs = get_or rows.sets c [] in
+pub put-table : (sets later : List (List Row)) (c j p a : ℕ) (v : Version) → c ≡ a % 16 → GoodSets sets → p < 4 → RowFor (get_or sets c []) p a j
+    → later ≡ set sets c (set (get_or sets c []) j (row_with (get_or (get_or sets c []) j no_row) p a v))
+    → (in_sets later ≡ with_version (in_sets sets) p a v) × GoodSets later
+put-table sets later c j p a v class_is g l x is =
+    let rs = get_or sets c [] in
     let s = g.each c (omega arith) in
     let new = set rs j (row_with (get_or rs j no_row) p a v) in
-    let inside : c < length rows.sets = omega (arith, g.sets) in
-    let here : get_or later c [] ≡ new = ap (λ (t : List (List Row)). get_or t c []) is ∙ get_or-set_same rows.sets c new [] inside in
-    let there : (d : ℕ) → d ≢ c → get_or later d [] ≡ get_or rows.sets d [] = λ d ne. ap (λ (t : List (List Row)). get_or t d []) is ∙ get_or-set_other rows.sets c d new [] ne in
+    let inside : c < length sets = omega (arith, g.count) in
+    let here : get_or later c [] ≡ new = ap (λ (t : List (List Row)). get_or t c []) is ∙ get_or-set_same sets c new [] inside in
+    let there : (d : ℕ) → d ≢ c → get_or later d [] ≡ get_or sets d [] = λ d ne. ap (λ (t : List (List Row)). get_or t d []) is ∙ get_or-set_other sets c d new [] ne in
     let wide : p < length (get_or rs j no_row).versions = omega (arith, s.wide j x.within) in
     let fits : ((get_or rs j no_row).address ≡ a) ⊎ ((q : ℕ) → is_held (in_row (get_or rs j no_row) q) ≡ false) =
-    ⊎_elim (λ (e : (get_or rs j no_row).address ≡ a). inl e) (λ (f : is_free (get_or rs j no_row) ≡ true). inr (free-unheld (get_or rs j no_row) (s.wide j x.within) f)) x.fits in (
+    ⊎_elim (λ (e : (get_or rs j no_row).address ≡ a). inl e) (λ (f : is_free (get_or rs j no_row) ≡ true). inr (free-unheld (get_or rs j no_row) f)) x.fits in (
       fun_ext (λ q. fun_ext (λ b.
           ⊎_elim
           (λ (e : b % 16 ≡ c).
           ap (λ (d : ℕ). in_rows (get_or later d []) q b) e
           ∙ (ap (λ (t : List Row). in_rows t q b) here
           ∙ (put-rows rs j p a v (omega (arith, s.count, x.within)) wide fits (λ i k h. x.only i (omega (arith, s.count)) h) q b
-          ∙ ap (λ (d : ℕ). cond (eqb q p && eqb a b) v (in_rows (get_or rows.sets d []) q b)) (sym e))))
+          ∙ ap (λ (d : ℕ). cond (eqb q p && eqb a b) v (in_rows (get_or sets d []) q b)) (sym e))))
           (λ (ne : b % 16 ≢ c).
-          let apart : eqb a b ≡ false = ne_eqb a b (λ e. ne (ap (λ (y : ℕ). y % 16) (sym e))) in
+          let apart : eqb a b ≡ false = ne_eqb a b (λ e. ne (ap (λ (y : ℕ). y % 16) (sym e) ∙ sym class_is)) in
           let off : (eqb q p && eqb a b) ≡ false = grind (arith, nat_tests) in
-          ap (λ (t : List Row). in_rows t q b) (there (b % 16) ne) ∙ sym (cond-false (eqb q p && eqb a b) v (table_in rows q b) off))
+          ap (λ (t : List Row). in_rows t q b) (there (b % 16) ne) ∙ sym (cond-false (eqb q p && eqb a b) v (in_sets sets q b) off))
           (cases_eq (b % 16) c))),
       record {
-        sets = ap length is ∙ (length-set rows.sets c new ∙ g.sets);
+        count = ap length is ∙ (length-set sets c new ∙ g.count);
         each = λ d k.
             ⊎_elim
-            (λ (e : d ≡ c). subst (λ (y : ℕ). GoodSet y (get_or later y [])) (sym e) (subst (GoodSet c) (sym here) (put-good c rs j p a v s x refl)))
+            (λ (e : d ≡ c). subst (λ (y : ℕ). GoodSet y (get_or later y [])) (sym e) (subst (GoodSet c) (sym here) (put-good c rs j p a v s x (sym class_is))))
             (λ (ne : d ≢ c). subst (GoodSet d) (sym (there d ne)) (g.each d k))
             (cases_eq d c);
       },
     )
 
 -- what p holds of a class
-pub held-table : (rows : Rows) (p c : ℕ) (o : Option ℕ) → GoodRows rows → c < 16 → o ≡ held_address (get_or rows.sets c []) p → HeldIn (table_in rows p) c o
-held-table rows p c None g l e = λ b same. ap (λ (d : ℕ). is_held (in_rows (get_or rows.sets d []) p b)) same ∙ held_none (get_or rows.sets c []) p b (sym e)
-held-table rows p c (Some b) g l e =
-    let rs = get_or rows.sets c [] in
+pub held-table : (sets : List (List Row)) (p c : ℕ) (o : Option ℕ) → GoodSets sets → c < 16 → o ≡ held_address (get_or sets c []) p → HeldIn (in_sets sets p) c o
+held-table sets p c None g l e = λ b same. ap (λ (d : ℕ). is_held (in_rows (get_or sets d []) p b)) same ∙ held_none (get_or sets c []) p b (sym e)
+held-table sets p c (Some b) g l e =
+    let rs = get_or sets c [] in
     let s = g.each c l in
     let x = held-some rs p b (sym e) in
     let four : x.0 < 4 = omega (arith, x.1, s.count) in
     let class : b % 16 ≡ c = ap (λ (y : ℕ). y % 16) (sym x.3) ∙ s.class p x.0 four x.2 in (
       class,
-      ap (λ (d : ℕ). is_held (in_rows (get_or rows.sets d []) p b)) class
+      ap (λ (d : ℕ). is_held (in_rows (get_or sets d []) p b)) class
           ∙ subst (λ (y : ℕ). is_held (in_rows rs p y) ≡ true) x.3 (row_shows rs p x.0 x.1 x.2),
     )
 
@@ -370,8 +357,10 @@ cleared-rows [] p q b = go (eqb q p)
     go true = refl
     go false = refl
 cleared-rows (r ∷ rs) p q b =
-    ap (λ (u : Version). cond (eqb r.address b && is_held u) u (in_rows (map (without_row p) rs) q b)) (cleared-row r p q)
-    ∙ (ap (λ (u : Version). cond (eqb r.address b && is_held (cond (eqb q p) no_version (in_row r q))) (cond (eqb q p) no_version (in_row r q)) u) (cleared-rows rs p q b) ∙ go (eqb q p) (eqb r.address b))
+    in-cons (without_row p r) (map (without_row p) rs) q b
+    ∙ (ap (λ (u : Version). cond (eqb r.address b && is_held u) u (in_rows (map (without_row p) rs) q b)) (cleared-row r p q)
+    ∙ (ap (λ (u : Version). cond (eqb r.address b && is_held (cond (eqb q p) no_version (in_row r q))) (cond (eqb q p) no_version (in_row r q)) u) (cleared-rows rs p q b)
+    ∙ (go (eqb q p) (eqb r.address b) ∙ ap (cond (eqb q p) no_version) (sym (in-cons r rs q b)))))
   where
     go : (t s : Bool) → cond (s && is_held (cond t no_version (in_row r q))) (cond t no_version (in_row r q)) (cond t no_version (in_rows rs q b))
         ≡ cond t no_version (cond (s && is_held (in_row r q)) (in_row r q) (in_rows rs q b))
@@ -386,19 +375,19 @@ cleared-held r p q h = go (eqb q p) (sym (ap is_held (cleared-row r p q)) ∙ h)
     go true e = absurd (true≢false (sym e))
     go false e = e
 
-pub clear-table : (rows : Rows) (later : List (List Row)) (p : ℕ) → GoodRows rows → later ≡ map (map (without_row p)) rows.sets
-    → (table_in (record { sets = later }) ≡ without (table_in rows) p) × GoodRows (record { sets = later })
-clear-table rows later p g is =
-    let at : (c : ℕ) → c < 16 → get_or later c [] ≡ map (without_row p) (get_or rows.sets c []) =
-    λ c l. ap (λ (t : List (List Row)). get_or t c []) is ∙ get_or-map (map (without_row p)) rows.sets c [] [] (omega (arith, g.sets)) in
-    let row : (c : ℕ) → c < 16 → (i : ℕ) → i < 4 → get_or (get_or later c []) i no_row ≡ without_row p (get_or (get_or rows.sets c []) i no_row) =
-    λ c l i k. ap (λ (t : List Row). get_or t i no_row) (at c l) ∙ get_or-map (without_row p) (get_or rows.sets c []) i no_row no_row (omega (arith, (g.each c l).count)) in (
-      fun_ext (λ q. fun_ext (λ b. ap (λ (t : List Row). in_rows t q b) (at (b % 16) (omega arith)) ∙ cleared-rows (get_or rows.sets (b % 16) []) p q b)),
+pub clear-table : (sets later : List (List Row)) (p : ℕ) → GoodSets sets → later ≡ map (map (without_row p)) sets
+    → (in_sets later ≡ without (in_sets sets) p) × GoodSets later
+clear-table sets later p g is =
+    let at : (c : ℕ) → c < 16 → get_or later c [] ≡ map (without_row p) (get_or sets c []) =
+    λ c l. ap (λ (t : List (List Row)). get_or t c []) is ∙ get_or-map (map (without_row p)) sets c [] [] (omega (arith, g.count)) in
+    let row : (c : ℕ) → c < 16 → (i : ℕ) → i < 4 → get_or (get_or later c []) i no_row ≡ without_row p (get_or (get_or sets c []) i no_row) =
+    λ c l i k. ap (λ (t : List Row). get_or t i no_row) (at c l) ∙ get_or-map (without_row p) (get_or sets c []) i no_row no_row (omega (arith, (g.each c l).count)) in (
+      fun_ext (λ q. fun_ext (λ b. ap (λ (t : List Row). in_rows t q b) (at (b % 16) (omega arith)) ∙ cleared-rows (get_or sets (b % 16) []) p q b)),
       record {
-        sets = ap length is ∙ (length-map rows.sets (map (without_row p)) ∙ g.sets);
+        count = ap length is ∙ (length-map sets (map (without_row p)) ∙ g.count);
         each = λ c l.
             let s = g.each c l in
-            let rs = get_or rows.sets c [] in
+            let rs = get_or sets c [] in
             let held : (q i : ℕ) → i < 4 → is_held (in_row (get_or (get_or later c []) i no_row) q) ≡ true → is_held (in_row (get_or rs i no_row) q) ≡ true =
             λ q i k h. cleared-held (get_or rs i no_row) p q (sym (ap (λ (r : Row). is_held (in_row r q)) (row c l i k)) ∙ h) in
             record {
@@ -412,7 +401,7 @@ clear-table rows later p g is =
 
 -- all rows free
 pub new-table : (r : Row) (sets : List (List Row)) → r.versions ≡ replicate 4 no_version → sets ≡ replicate 16 (replicate 4 r)
-    → (table_in (record { sets = sets }) ≡ empty_table) × GoodRows (record { sets = sets })
+    → (in_sets sets ≡ empty_table) × GoodSets sets
 new-table r sets none is =
     let at : (c : ℕ) → c < 16 → get_or sets c [] ≡ replicate 4 r = λ c l. ap (λ (t : List (List Row)). get_or t c []) is ∙ get_or-replicate 16 c (replicate 4 r) [] l in
     let row : (c : ℕ) → c < 16 → (i : ℕ) → i < 4 → get_or (get_or sets c []) i no_row ≡ r = λ c l i k. ap (λ (t : List Row). get_or t i no_row) (at c l) ∙ get_or-replicate 4 i r no_row k in
@@ -426,7 +415,7 @@ new-table r sets none is =
     let four : (c : ℕ) → c < 16 → length (get_or sets c []) ≡ 4 = λ c l. ap length (at c l) ∙ length-replicate 4 r in (
       fun_ext (λ q. fun_ext (λ b. rows-unheld (get_or sets (b % 16) []) q b (λ i k. unheld q (b % 16) (omega arith) i (subst (λ (n : ℕ). i < n) (four (b % 16) (omega arith)) k)))),
       record {
-        sets = ap length is ∙ length-replicate 16 (replicate 4 r);
+        count = ap length is ∙ length-replicate 16 (replicate 4 r);
         each = λ c l. record {
           count = four c l;
           wide = λ i k. ap (λ (x : Row). length x.versions) (row c l i k) ∙ (ap length none ∙ length-replicate 4 no_version);

@@ -1,2 +1,3 @@
-mod Searching
 mod Buffering
+mod Going
+mod Starting

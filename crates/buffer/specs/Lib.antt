@@ -1,3 +1,4 @@
+pub mod Sets
 pub mod Rows
 pub mod Tasks
 pub mod Buffers

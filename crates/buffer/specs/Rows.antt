@@ -1,63 +1,14 @@
--- The rows of the central buffer: a row has an address and a version for each processor; address a lives in set a mod 16.
-use Rattle.std.specs.Prelude.{◌≡◌, ℕ, suc, ◌%◌, ◌<◌, Bool, true, cond, not, ◌&&◌, ◌⊎◌, List, [], ◌∷◌, length, get_or, Some, None, Option, ◌==◌, slice_index_or, slice_set}
-use Rattle.buffer.specs.declared.rows.Row.{Row}
+-- The table that the rows of the central buffer keep.
+use Rattle.std.specs.Prelude.{◌≡◌, ℕ, ◌%◌, true}
 use Rattle.buffer.specs.declared.rows.Rows.{Rows}
 use Rattle.versions.specs.declared.version.Version.{Version}
-use Rattle.versions.specs.Cuts.{any_below}
-use Rattle.versions.specs.Versions.{no_version, is_held}
+use Rattle.versions.specs.Versions.{is_held}
 use Rattle.versions.specs.Tables.{Table}
+use Rattle.buffer.specs.Sets.{in_sets}
 
--- past the rows of a set
-abbrev pub no_row : Row
-no_row = record { address = 0; versions = [] }
-
--- p's version in a row, and the row with v as p's version of a
-abbrev pub in_row : Row → ℕ → Version
-in_row r p = slice_index_or r.versions p no_version
-
-abbrev pub row_with : Row → ℕ → ℕ → Version → Row
-row_with r p a v = record { address = a; versions = slice_set r.versions p v }
-
--- nobody holds the row
-abbrev pub is_free : Row → Bool
-is_free r = not (any_below (λ q. is_held (in_row r q)) 4)
-
--- p's version of a among the rows of a set: that of the first row of the address in which p holds it
-abbrev pub in_rows : List Row → ℕ → ℕ → Version
-in_rows [] p a = no_version
-in_rows (r ∷ rs) p a = cond (r.address == a && is_held (in_row r p)) (in_row r p) (in_rows rs p a)
-
--- the address of the first row that p holds
-abbrev pub held_address : List Row → ℕ → Option ℕ
-held_address [] p = None
-held_address (r ∷ rs) p = cond (is_held (in_row r p)) (Some r.address) (held_address rs p)
-
--- the place of the first row that passes a test; the number of rows where none does
-abbrev pub first_place : (Row → Bool) → List Row → ℕ
-first_place f [] = 0
-first_place f (r ∷ rs) = cond (f r) 0 (suc (first_place f rs))
-
--- the rows without p's versions
-abbrev pub without_row : ℕ → Row → Row
-without_row p r = record { address = r.address; versions = slice_set r.versions p no_version }
-
--- the table that the sets keep
 abbrev pub table_in : Rows → Table
-table_in rows p a = in_rows (slice_index_or rows.sets (a % 16) []) p a
+table_in rows = in_sets rows.sets
 
--- the rows of class c: there are four, each for four processors; a processor holds one at most, of an address of the class
-pub record GoodSet (c : ℕ) (rs : List Row) : Type 0 where
-  pub count : length rs ≡ 4
-  pub wide : (j : ℕ) → j < 4 → length (get_or rs j no_row).versions ≡ 4
-  pub one : (p i j : ℕ) → i < 4 → j < 4 → is_held (in_row (slice_index_or rs i no_row) p) ≡ true → is_held (in_row (slice_index_or rs j no_row) p) ≡ true → i ≡ j
-  pub class : (p j : ℕ) → j < 4 → is_held (in_row (slice_index_or rs j no_row) p) ≡ true → (get_or rs j no_row).address % 16 ≡ c
-
-pub record GoodRows (rows : Rows) : Type 0 where
-  pub sets : length rows.sets ≡ 16
-  pub each : (c : ℕ) → c < 16 → GoodSet c (slice_index_or rows.sets c [])
-
--- the row at place j can take p's version of a: it is of that address or free, and p holds no other row of the set
-pub record RowFor (rs : List Row) (p a j : ℕ) : Type 0 where
-  pub within : j < 4
-  pub fits : ((get_or rs j no_row).address ≡ a) ⊎ (is_free (slice_index_or rs j no_row) ≡ true)
-  pub only : (i : ℕ) → i < 4 → is_held (in_row (slice_index_or rs i no_row) p) ≡ true → i ≡ j
+-- a task with these versions holds no other address of a's class
+abbrev pub HoldsNoOther : (ℕ → Version) → ℕ → Type 0
+HoldsNoOther at a = (b : ℕ) → is_held (at b) ≡ true → b % 16 ≡ a % 16 → b ≡ a

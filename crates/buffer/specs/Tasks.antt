@@ -1,13 +1,9 @@
--- The active tasks of the central buffer: their processors in order, and the rows with their versions.
+-- The active tasks of the central buffer: the table of their versions.
 use Rattle.std.specs.Prelude.{ℕ, List, map}
 use Rattle.buffer.specs.declared.tasks.Tasks.{Tasks}
 use Rattle.versions.specs.declared.version.Version.{Version}
-use Rattle.versions.specs.Orders.{processors, Ordered}
-use Rattle.buffer.specs.Rows.{table_in, GoodRows}
+use Rattle.buffer.specs.Rows.{table_in}
 use Rattle.versions.specs.Tables.{Table}
-
-abbrev pub processors_of : Tasks → List ℕ
-processors_of t = processors t.order
 
 abbrev pub table_of : Tasks → Table
 table_of t = table_in t.rows
@@ -15,7 +11,3 @@ table_of t = table_in t.rows
 -- the versions of a of some processors, in their order
 abbrev pub versions_at : Tasks → ℕ → List ℕ → List Version
 versions_at t a ps = map (λ q. table_of t q a) ps
-
-pub record GoodTasks (t : Tasks) : Type 0 where
-  pub order : Ordered t.order
-  pub rows : GoodRows t.rows

@@ -1,29 +1,42 @@
 // The beginning of a file.
 #![tactic(auto)]
 
-ghost use Rattle.std.specs.Prelude.{◌≡◌, ◌<◌, ◌≤◌, length, take, IfOk};
+ghost use Rattle.std.specs.Prelude.{◌≡◌, ◌<◌, ◌≤◌, length, take, IfOk, vec_len};
 ghost use Rattle.std.specs.Io.KnownBytes.{Consumes, IsAtEnd};
 
-use std::fs::File;
+use std::alloc::Global;
+use std::fs::{File, Files};
 use std::io;
 use std::io::{ErrorKind, Read};
 
 #[cfg(test)]
 mod tests;
 
-// Reads a file from its beginning until it ends or the buffer is full, and gives the number of bytes. A missing file is
-// empty. What a file holds, and whether it is there, no contract can say: the tests below do.
-pub fn read_start(rt: &HostRuntime, path: &str, buffer: &mut [u8]) -> io::Result<usize>
-    ensures within { IfOk result (λ n. n ≤ length buffer.old) }
-    ensures size { length buffer.new ≡ length buffer.old }
+// The first bytes of a file, until it ends or there are `most`. A missing file is empty. What a file holds, and whether it is
+// there, no contract can say: the tests below do.
+pub fn read_start<R: Files + AllocGlobal>(rt: &R, path: &str, most: usize) -> io::Result<Vec<u8>>
+    ensures { IfOk result (λ bytes. vec_len bytes ≤ most) }
 {
     match File::open(rt, path) {
-        Ok(mut file) => fill(&mut file, buffer),
+        Ok(mut file) => take_most(rt.alloc(), &mut file, most),
         Err(e) => match e.kind() {
-            ErrorKind::NotFound => Ok(0),
+            ErrorKind::NotFound => Ok(Vec::new(rt.alloc())),
             _ => Err(e),
         },
     }
+}
+
+// Takes `most` bytes from a source, or all that it has where they are fewer: they are the source's next ones, in their order.
+// (The library's `take` and `read_to_end` do not promise that a source whose bytes are unknown gives no more than `most`.)
+fn take_most<R: Read>(heap: Global, source: &mut R, most: usize) -> io::Result<Vec<u8>>
+    ensures within { IfOk result (λ bytes. vec_len bytes ≤ most) }
+    ensures taken { IfOk result (λ bytes. Consumes (R.remaining source.old) (R.remaining source.new) bytes.items) }
+    ensures ends { IfOk result (λ bytes. vec_len bytes < most → IsAtEnd (R.remaining source.new)) }
+{
+    let mut bytes = vec![in heap; 0u8; most]?;
+    let len = fill(source, bytes.as_mut_slice())?;
+    bytes.truncate(len);
+    Ok(bytes)
 }
 
 // Reads until the source ends or the buffer is full, and gives the number of bytes: they are the source's next ones, in their
@@ -36,7 +49,7 @@ fn fill<R: Read>(source: &mut R, buffer: &mut [u8]) -> io::Result<usize>
     ensures ends { IfOk result (λ n. n < length buffer.old → IsAtEnd (R.remaining source.new)) }
 {
     let mut len = 0;
-    for _ in 0..buffer.len() {
+    while len < buffer.len() {
         let n = source.read(&mut buffer[len..])?;
         if n == 0 {
             break;

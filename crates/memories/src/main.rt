@@ -8,7 +8,7 @@ mod transfer;
 use memory::{
     ByteMemory, Memory, MemoryError, SecondLevel, WordMemory, checksum, count_differences,
 };
-use report::{Hex, Outside};
+use report::{Hex, Outcome, Outside};
 use std::fs;
 use transfer::{copy_from_cache, copy_into_caches, try_outside};
 
@@ -133,9 +133,7 @@ fn print_opening(
     size: usize,
     answer: Result<(), MemoryError>,
 ) -> anyhow::Result<()> {
-    match answer {
-        Ok(()) => println!(rt; "opening {size} {unit}: ok")?,
-        Err(e) => println!(rt; "opening {size} {unit}: {e}")?,
-    }
+    let outcome = Outcome(answer.err());
+    println!(rt; "opening {size} {unit}: {outcome}")?;
     Ok(())
 }

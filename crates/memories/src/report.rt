@@ -1,4 +1,7 @@
 // What the report says of calls outside a memory, and of bytes.
+ghost use Rattle.std.specs.Prelude.{Some};
+ghost use Rattle.memories.specs.Shown.{outcome_text, outside_text};
+
 use memory::MemoryError;
 use std::fmt;
 
@@ -11,19 +14,28 @@ pub struct Outside {
 }
 
 impl fmt::Display for Outside {
+    ghost output = { λ o. Some (outside_text o) };
+
     fn fmt<W: fmt::Write>(&self, f: &mut fmt::Formatter<W>) -> fmt::Result {
         let a = self.address;
-        write!(f, "read of {a}: ")?;
-        show(self.read, f)?;
-        write!(f, ", write of {a}: ")?;
-        show(self.write, f)
+        let read = Outcome(self.read);
+        let write = Outcome(self.write);
+        write!(f, "read of {a}: {read}, write of {a}: {write}")
     }
 }
 
-fn show<W: fmt::Write>(refusal: Option<MemoryError>, f: &mut fmt::Formatter<W>) -> fmt::Result {
-    match refusal {
-        Some(e) => write!(f, "{e}"),
-        None => write!(f, "ok"),
+// How a call ended: its refusal, if it gave one.
+#[derive(Clone, Copy)]
+pub struct Outcome(pub Option<MemoryError>);
+
+impl fmt::Display for Outcome {
+    ghost output = { λ o. Some (outcome_text o.0) };
+
+    fn fmt<W: fmt::Write>(&self, f: &mut fmt::Formatter<W>) -> fmt::Result {
+        match self.0 {
+            Some(e) => write!(f, "{e}"),
+            None => write!(f, "ok"),
+        }
     }
 }
 

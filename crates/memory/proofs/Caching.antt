@@ -1,19 +1,21 @@
 -- Laws of the second-level cache: what giving up a line and taking one do to the words as counted.
-use Rattle.std.proofs.Common.{◌≡◌, ℕ, ◌+◌, ◌%◌, ◌<◌, ◌≤◌, true, false, cond, eqb, ltb, ◌≢◌, List, length, get_or, set, replicate, is_some, IfSome, Some, None, Ok, Err, Option, Result, unwrap_or, sym, refl, ap, ◌∙◌, subst, ⊎_elim, arith}
+use Rattle.std.proofs.Common.{◌≡◌, ℕ, ◌+◌, ◌%◌, ◌<◌, true, false, eqb, ◌≢◌, List, length, get_or, set, replicate, is_some, IfSome, Some, None, Ok, Err, Option, unwrap_or, sym, refl, ap, ◌∙◌, ⊎_elim, arith}
 use Rattle.std.proofs.lemmas.List.FromFn.{length-map-range_with_len, get_or-map-range_with_len}
 use Rattle.std.proofs.lemmas.List.{length-set, get_or-set_same, get_or-set_other, ext_get_or, set-get_or, get_or-replicate, length-replicate}
-use Rattle.std.proofs.lemmas.Bool.{cases_eq, cases_lt, lt-ltb, le-ltb, eq-eqb, ne_eqb, cond-true, cond-false, cond_both, true≢false}
+use Rattle.std.proofs.lemmas.Bool.{cases_eq, eq-eqb, ne_eqb, cond-true, cond-false, cond_both}
 use Rattle.std.proofs.lemmas.Bool.Decides.{nat_tests}
+use Rattle.std.proofs.lemmas.Grind.{common_steps, same_number_lists}
 use Rattle.memory.specs.declared.error.MemoryError.{MemoryError}
-use Rattle.memory.specs.declared.error.MemoryError.TheVariants.{Address}
 use Rattle.memory.specs.declared.second.Line.{Line}
 use Rattle.memory.specs.declared.second.Line.TheVariants.{Empty, Clean, Changed}
 use Rattle.memory.specs.Words.{read_answer}
-use Rattle.memory.specs.Second.{Cached, lines_over, empty_over, after_read, word_in, line_of, hit, counted_at, counted, written_back, given_up, freed, with_line, MayHold, Tied}
+use Rattle.memory.specs.Second.{Cached, lines_over, empty_over, word_in, line_of, hit, counted_at, counted, written_back, given_up, freed, with_line, MayHold, Tied}
 
 pub length-counted : (c : Cached) → length (counted c) ≡ length c.below
 unfolding counted
 length-counted c = length-map-range_with_len (counted_at c) 0 (length c.below)
+
+pub ruleset sizes = (length-counted)
 
 pub get_or-counted : (c : Cached) (a : ℕ) → a < length c.below → get_or (counted c) a 0 ≡ counted_at c a
 unfolding counted
@@ -21,41 +23,22 @@ get_or-counted c a h = get_or-map-range_with_len (counted_at c) 0 (length c.belo
 
 -- a line has no word for an address that belongs to another line
 pub word_in-elsewhere : (ws : List ℕ) (i : ℕ) (l : Line) (b : ℕ) → MayHold ws i l → b % 64 ≢ i → word_in l b ≡ None
-word_in-elsewhere ws i Empty b m ne = refl
-word_in-elsewhere ws i (Clean t w) b m ne = cond-false (eqb t b) (Some w) None (ne_eqb t b (λ e. ne (subst (λ (x : ℕ). x % 64 ≡ i) e m.0)))
-word_in-elsewhere ws i (Changed t w) b m ne = cond-false (eqb t b) (Some w) None (ne_eqb t b (λ e. ne (subst (λ (x : ℕ). x % 64 ≡ i) e m.0)))
+word_in-elsewhere ws i l b m ne = grind (arith, nat_tests)
 
 pub length-written_back : (ws : List ℕ) (l : Line) → length (written_back l ws) ≡ length ws
-length-written_back ws Empty = refl
-length-written_back ws (Clean t w) = refl
-length-written_back ws (Changed t w) = length-set ws t w
+length-written_back ws l = grind (arith, common_steps)
 
 -- once a line is given up, the words below show what the line showed
 pub get_or-written_back : (ws : List ℕ) (i : ℕ) (l : Line) (b : ℕ) → MayHold ws i l → get_or (written_back l ws) b 0 ≡ unwrap_or (word_in l b) (get_or ws b 0)
-get_or-written_back ws i Empty b m = refl
-get_or-written_back ws i (Clean t w) b m =
-    ⊎_elim
-    (λ (e : t ≡ b). rw (eq-eqb t b e) (ap (λ (x : ℕ). get_or ws x 0) (sym e) ∙ sym m.2))
-    (λ (ne : t ≢ b). rw (ne_eqb t b ne))
-    (cases_eq t b)
-get_or-written_back ws i (Changed t w) b m =
-    ⊎_elim
-    (λ (e : t ≡ b). rw (eq-eqb t b e) (subst (λ (x : ℕ). get_or (set ws t w) x 0 ≡ w) e (get_or-set_same ws t w 0 m.1)))
-    (λ (ne : t ≢ b). rw (ne_eqb t b ne) (get_or-set_other ws t b w 0 (λ e. ne (sym e))))
-    (cases_eq t b)
+get_or-written_back ws i l b m = grind (arith, common_steps)
 
 -- a line may still be held where the words of its addresses stay
 may_hold-kept : (ws vs : List ℕ) (i : ℕ) (l : Line) → MayHold ws i l → length vs ≡ length ws → ((t : ℕ) → t % 64 ≡ i → get_or vs t 0 ≡ get_or ws t 0) → MayHold vs i l
-may_hold-kept ws vs i Empty m n same = tt
-may_hold-kept ws vs i (Clean t w) m n same = (m.0, rw n m.1, m.2 ∙ sym (same t m.0))
-may_hold-kept ws vs i (Changed t w) m n same = (m.0, rw n m.1)
+may_hold-kept ws vs i l m n same = grind (arith, nat_tests)
 
 -- giving up line i leaves the words below of other lines' addresses
 below-elsewhere : (c : Cached) (i b : ℕ) → Tied c → i < 64 → b % 64 ≢ i → get_or (given_up c i).below b 0 ≡ get_or c.below b 0
-below-elsewhere c i b t h ne =
-    let m = t.each i h in
-    get_or-written_back c.below i (get_or c.lines i Empty) b m
-    ∙ ap (λ o. unwrap_or o (get_or c.below b 0)) (word_in-elsewhere c.below i (get_or c.lines i Empty) b m ne)
+below-elsewhere c i b t h ne = let m = t.each i h in grind (arith, word_in-elsewhere, get_or-written_back)
 
 pub tied-given_up : (c : Cached) (i : ℕ) → Tied c → i < 64 → Tied (given_up c i)
 tied-given_up c i t h = record {
@@ -95,14 +78,8 @@ Free c a = (b : ℕ) → b ≢ a → word_in (line_of c a) b ≡ None
 
 tied-placed : (c : Cached) (a : ℕ) (l : Line) → Tied c → MayHold c.below (a % 64) l → Tied (placed c a l)
 tied-placed c a l t m =
-    let inside : a % 64 < length c.lines = rw t.count (omega arith) in
-    record {
-      count = length-set c.lines (a % 64) l ∙ t.count;
-      each = λ j k. ⊎_elim
-          (λ (e : j ≡ a % 64). rw (e, get_or-set_same c.lines (a % 64) l Empty inside) m)
-          (λ (ne : j ≢ a % 64). rw (get_or-set_other c.lines (a % 64) j l Empty ne) (t.each j k))
-          (cases_eq j (a % 64));
-    }
+    let count = t.count in
+    record { count = length-set c.lines (a % 64) l ∙ count; each = λ j k. let held = t.each j k in grind (arith, common_steps) }
 
 -- a line with the word w of address a alone makes w word a
 counted-placed : (c : Cached) (a : ℕ) (l : Line) (w : ℕ) → Tied c → Free c a → a < length c.below
@@ -128,9 +105,7 @@ counted-placed c a l w t free h here there =
 
 -- a line that has a word for a has one for no other address
 word_in-other : (l : Line) (a b : ℕ) → is_some (word_in l a) ≡ true → b ≢ a → word_in l b ≡ None
-word_in-other Empty a b h ne = refl
-word_in-other (Clean t w) a b h ne = grind (arith, nat_tests)
-word_in-other (Changed t w) a b h ne = grind (arith, nat_tests)
+word_in-other l a b h ne = grind (arith, nat_tests)
 
 -- freeing the line of a: the laws of giving it up, where it is another address's
 tied-freed : (c : Cached) (a : ℕ) → Tied c → Tied (freed c a)
@@ -184,9 +159,7 @@ fetches-line c a t h none =
 
 -- a read that hits: the address is one of the memory's, and the line's word is the word as counted
 hit-inside : (ws : List ℕ) (i : ℕ) (l : Line) (a w : ℕ) → MayHold ws i l → word_in l a ≡ Some w → a < length ws
-hit-inside ws i Empty a w m e = let z : ◌≡◌ {A = ℕ} 0 1 = cc in absurd (omega arith)
-hit-inside ws i (Clean t v) a w m e = grind (arith, nat_tests)
-hit-inside ws i (Changed t v) a w m e = grind (arith, nat_tests)
+hit-inside ws i l a w m e = grind (arith, nat_tests)
 
 pub counted-hit : (c : Cached) (a w : ℕ) → Tied c → word_in (line_of c a) a ≡ Some w → (a < length c.below) × (get_or (counted c) a 0 ≡ w)
 counted-hit c a w t e =
@@ -200,8 +173,8 @@ tied-empty ws = record { count = length-replicate 64 Empty; each = λ i h. rw (g
 -- where all lines are empty, the cache counts the words below
 pub counted-empty : (c : Cached) → ((i : ℕ) → i < 64 → get_or c.lines i Empty ≡ Empty) → counted c ≡ c.below
 counted-empty c e =
-    ext_get_or 0 (counted c) c.below (length-counted c)
-    (λ b k. get_or-counted c b (rw length-counted at k) ∙ ap (λ (l : Line). unwrap_or (word_in l b) (get_or c.below b 0)) (e (b % 64) (omega arith)))
+    same_number_lists _ _ (length-counted c)
+    (λ b k. let f = e (b % 64) (omega arith) in grind (arith, length-counted, get_or-counted))
 
 pub empty-lines : (i : ℕ) → i < 64 → get_or (replicate 64 Empty) i Empty ≡ Empty
 empty-lines i h = get_or-replicate 64 i Empty Empty h
@@ -222,87 +195,45 @@ empty-after c d i t h e before j k =
     (λ (ne : j ≢ i). get_or-set_other c.lines i j Empty Empty ne ∙ before j (omega arith))
     (cases_eq j i)
 
--- what an answered read says
-read_ok : (ws : List ℕ) (a w : ℕ) → Ok w ≡ read_answer ws a → (a < length ws) × (w ≡ get_or ws a 0)
-read_ok ws a w e =
-    ⊎_elim
-    (λ (h : a < length ws). let f : Ok w ≡ Ok (get_or ws a 0) = e ∙ cond-true (ltb a (length ws)) (Ok (get_or ws a 0)) (Err Address) (lt-ltb a (length ws) h) in (h, cc))
-    (λ (h : length ws ≤ a). let f : Ok w ≡ Err Address = e ∙ cond-false (ltb a (length ws)) (Ok (get_or ws a 0)) (Err Address) (le-ltb a (length ws) h) in
-    let z : ◌≡◌ {A = ℕ} 0 1 = cc in absurd (omega arith))
-    (cases_lt a (length ws))
-
-read-err : (ws : List ℕ) (a : ℕ) (e : MemoryError) → Err e ≡ read_answer ws a → (length ws ≤ a) × (e ≡ Address)
-read-err ws a e r =
-    ⊎_elim
-    (λ (h : a < length ws). let f : Err e ≡ Ok (get_or ws a 0) = r ∙ cond-true (ltb a (length ws)) (Ok (get_or ws a 0)) (Err Address) (lt-ltb a (length ws) h) in
-    let z : ◌≡◌ {A = ℕ} 0 1 = cc in absurd (omega arith))
-    (λ (h : length ws ≤ a). let f : ◌≡◌ {A = Result ℕ MemoryError} (Err e) (Err Address) = r ∙ cond-false (ltb a (length ws)) (Ok (get_or ws a 0)) (Err Address) (le-ltb a (length ws) h) in (h, cc))
-    (cases_lt a (length ws))
-
-none_of : (o : Option ℕ) → is_some o ≡ false → o ≡ None
-none_of None e = refl
-none_of (Some w) e = absurd (true≢false e)
-
--- a read of an address that the cache holds gives the line's word and moves nothing
+-- a read of an address that the cache holds gives the line's word
 pub held-answer : (c : Cached) (a : ℕ) (o : Option ℕ) → Tied c → o ≡ word_in (line_of c a) a → IfSome o (λ w. read_answer (counted c) a ≡ Ok w)
 held-answer c a None t e = tt
-held-answer c a (Some w) t e =
-    let h = counted-hit c a w t (sym e) in
-    cond-true (ltb a (length (counted c))) (Ok (get_or (counted c) a 0)) (Err Address) (lt-ltb a (length (counted c)) (rw length-counted h.0))
-    ∙ ap Ok h.1
+held-answer c a (Some w) t e = let h = counted-hit c a w t (sym e) in grind (arith, nat_tests, length-counted)
 
-pub held-cached : (c : Cached) (a : ℕ) (o : Option ℕ) → o ≡ word_in (line_of c a) a → IfSome o (λ _. after_read c a ≡ c)
-held-cached c a None e = tt
-held-cached c a (Some w) e =
-    cond_both (ltb a (length c.below)) (cond (hit c a) c (with_line c a (Clean a (get_or c.below a 0)))) c (λ x. x ≡ c)
-    (λ _. cond-true (hit c a) c (with_line c a (Clean a (get_or c.below a 0))) (ap is_some (sym e))) (λ _. refl)
+-- a read that misses is refused where the memory below refuses
+pub fetch-refused : (c : Cached) (a : ℕ) (e : MemoryError) → Err e ≡ read_answer c.below a → Err e ≡ read_answer (counted c) a
+fetch-refused c a e refused = grind (arith, nat_tests, length-counted)
 
--- a read that misses, from the cache c to the cache d, with the answer r
-pub record Fetched (c d : Cached) (a : ℕ) (r : Result ℕ MemoryError) : Type 0 where
-  pub answer : r ≡ read_answer (counted c) a
+-- else it takes the line from the cache c to the cache d, with the word that the memory below gave
+pub record Fetched (c d : Cached) (a w : ℕ) : Type 0 where
+  pub answer : Ok w ≡ read_answer (counted c) a
   pub after : counted d ≡ counted c
   pub kept : Tied d
-  pub cached : d ≡ after_read c a
 
--- it is refused where the memory below refuses, and nothing has moved
-pub fetch-refused : (c d : Cached) (a : ℕ) (r : Result ℕ MemoryError) (e : MemoryError) → Tied c → d ≡ c → r ≡ Err e → Err e ≡ read_answer c.below a → Fetched c d a r
-fetch-refused c d a r e t same is refused =
-    let out = read-err c.below a e refused in
-    record {
-      answer = is ∙ (ap Err out.1 ∙ sym (cond-false (ltb a (length (counted c))) (Ok (get_or (counted c) a 0)) (Err Address) (le-ltb a (length (counted c)) (rw length-counted out.0))));
-      after = ap counted same;
-      kept = rw same t;
-      cached = same ∙ sym (cond-false (ltb a (length c.below)) (cond (hit c a) c (with_line c a (Clean a (get_or c.below a 0)))) c (le-ltb a (length c.below) out.0));
-    }
-
--- else it takes the line, with the word that the memory below gave
 pub fetch-done : (c m f : Cached) (a w : ℕ) → Tied c → hit c a ≡ false → m ≡ c → Ok w ≡ read_answer c.below a → f ≡ freed m a
-    → Fetched c (lines_over (set f.lines (a % 64) (Clean a w)) f.below) a (Ok w)
+    → Fetched c (lines_over (set f.lines (a % 64) (Clean a w)) f.below) a w
 fetch-done c m f a w t miss same done free =
-    let ok = read_ok c.below a w done in
-    let none : word_in (line_of c a) a ≡ None = none_of (word_in (line_of c a) a) miss in
-    let line = with_line c a (Clean a (get_or c.below a 0)) in
-    let is : lines_over (set f.lines (a % 64) (Clean a w)) f.below ≡ line =
+    let ok : (a < length c.below) × (w ≡ get_or c.below a 0) = grind (arith, nat_tests) in
+    let none : word_in (line_of c a) a ≡ None = grind (arith, nat_tests) in
+    let law = fetches-line c a t ok.0 none in
+    let is : lines_over (set f.lines (a % 64) (Clean a w)) f.below ≡ with_line c a (Clean a (get_or c.below a 0)) =
     ap (λ (x : Cached). lines_over (set x.lines (a % 64) (Clean a w)) x.below) (free ∙ ap (λ (x : Cached). freed x a) same)
     ∙ ap (λ (v : ℕ). with_line c a (Clean a v)) ok.1 in
-    let law = fetches-line c a t ok.0 none in
+    let word = counted-miss c a ok.0 none in
     record {
-      answer = ap Ok (ok.1 ∙ sym (counted-miss c a ok.0 none))
-          ∙ sym (cond-true (ltb a (length (counted c))) (Ok (get_or (counted c) a 0)) (Err Address) (lt-ltb a (length (counted c)) (rw length-counted ok.0)));
+      answer = grind (arith, nat_tests, length-counted c, word);
       after = ap counted is ∙ law.1;
       kept = rw is law.0;
-      cached = is ∙ sym (cond-true (ltb a (length c.below)) (cond (hit c a) c line) c (lt-ltb a (length c.below) ok.0) ∙ cond-false (hit c a) c line miss);
     }
 
--- a write to an address of the memory, from the cache c by the cache f with the line freed
+-- a write to an address of the memory, by the cache f with the line freed
 pub record Put (c d : Cached) (a w : ℕ) : Type 0 where
   pub after : counted d ≡ set (counted c) a w
   pub kept : Tied d
-  pub cached : d ≡ with_line c a (Changed a w)
 
 pub put-done : (c f : Cached) (a w : ℕ) → Tied c → a < length c.below → f ≡ freed c a → Put c (lines_over (set f.lines (a % 64) (Changed a w)) f.below) a w
 put-done c f a w t h free =
     let is : lines_over (set f.lines (a % 64) (Changed a w)) f.below ≡ with_line c a (Changed a w) =
     ap (λ (x : Cached). lines_over (set x.lines (a % 64) (Changed a w)) x.below) free in
     let law = writes_line c a w t h in
-    record { after = ap counted is ∙ law.1; kept = rw is law.0; cached = is }
+    record { after = ap counted is ∙ law.1; kept = rw is law.0 }

@@ -1,31 +1,30 @@
 -- Laws of the words in a row of bytes: their number, each word, and what writing one word leaves.
-use Rattle.std.proofs.Common.{◌≡◌, ℕ, ◌+◌, ◌*◌, ◌/◌, ◌%◌, ◌^◌, ◌<◌, ◌≢◌, List, length, get_or, drop, set, sym, ap, ◌∙◌, ⊎_elim, mod-eq_of_lt, div-one, arith}
-use Rattle.std.proofs.lemmas.Nat.{shr-shr, div-add-mod'}
+use Rattle.std.proofs.Common.{◌≡◌, ℕ, ◌+◌, ◌*◌, ◌/◌, ◌%◌, ◌^◌, ◌<◌, ◌≤◌, ◌≢◌, suc, zero, List, [], ◌∷◌, ◌++◌, Some, None, slice_get, length, get_or, take, drop, set, sym, ap, ◌∙◌, ⊎_elim, div-one, refl, arith}
+use Rattle.std.proofs.lemmas.Nat.{from_le_bytes-to_le_bytes_4}
+use Rattle.std.proofs.lemmas.Grind.{common_steps}
 use Rattle.std.proofs.lemmas.List.FromFn.{length-map-range_with_len, get_or-map-range_with_len}
-use Rattle.std.proofs.lemmas.List.{length-set, get_or-set_same, get_or-set_other, drop-set-lt, ext_get_or}
-use Rattle.std.proofs.lemmas.Bool.{cases_eq}
-use Rattle.memory.specs.Bytes.{byte_of, from_bytes, word_at, words_of, spare_bytes, with_word}
+use Rattle.std.proofs.lemmas.List.{length-set, get_or-set_same, get_or-set_other, ext_get_or}
+use Rattle.std.proofs.lemmas.List.{drop-drop, get_or-take, get_or-drop}
+use Rattle.std.proofs.lemmas.Option.{slice_get-get_or, slice_get_past}
+use Rattle.std.proofs.lemmas.Bool.{cases_eq, cond_below}
+use Rattle.std.specs.Simd.{first_chunks}
+use borrow.Rule.Slice.PartMut.{put_mid}
+use Rattle.memory.specs.Bytes.{byte_of, from_bytes, word_at, words_of, spare_bytes, with_word, written_bytes}
+use Rattle.memory.specs.Words.{written_words}
 
 pub length-words_of : (bs : List ℕ) → length (words_of bs) ≡ length bs / 4
 unfolding words_of
 length-words_of bs = length-map-range_with_len (word_at bs) 0 (length bs / 4)
 
+pub ruleset sizes = (length-words_of)
+
 pub get_or-words_of : (bs : List ℕ) (a : ℕ) → a < length bs / 4 → get_or (words_of bs) a 0 ≡ word_at bs a
 unfolding words_of
 get_or-words_of bs a h = get_or-map-range_with_len (word_at bs) 0 (length bs / 4) a a 0 h (omega arith)
 
--- four digits, each below 256, put together again: q, r and t are the quotients by 256, its square and its cube
-digits : (w q r t a b c : ℕ) → w ≡ q * 256 + a → q ≡ r * 256 + b → r ≡ t * 256 + c → a + b * 256 + c * 65536 + t * 16777216 ≡ w
-digits w q r t a b c e f g = omega arith
-
 -- a word is put together again from its four bytes
 pub from_bytes-byte_of : (w : ℕ) → w < 2 ^ 32 → from_bytes (byte_of 0 w) (byte_of 1 w) (byte_of 2 w) (byte_of 3 w) ≡ w
-from_bytes-byte_of w h =
-    let top : w / 16777216 % 256 ≡ w / 16777216 = mod-eq_of_lt (omega arith) in
-    rw (div-one w, top) (digits w (w / 256) (w / 65536) (w / 16777216) (w % 256) (w / 256 % 256) (w / 65536 % 256)
-    (sym (div-add-mod' w 256))
-    (sym (div-add-mod' (w / 256) 256) ∙ ap (λ (n : ℕ). n * 256 + w / 256 % 256) (shr-shr w 8 8))
-    (sym (div-add-mod' (w / 65536) 256) ∙ ap (λ (n : ℕ). n * 256 + w / 65536 % 256) (shr-shr w 16 8)))
+from_bytes-byte_of w h = rw (div-one w) (from_le_bytes-to_le_bytes_4 w h)
 
 -- four values at k and after it
 abbrev four : List ℕ → ℕ → ℕ → ℕ → ℕ → ℕ → List ℕ
@@ -38,40 +37,13 @@ get_or-four-other bs k j x0 x1 x2 x3 n0 n1 n2 n3 = rw (get_or-set_other, get_or-
 get_or-four : (bs : List ℕ) (k x0 x1 x2 x3 : ℕ) → k + 3 < length bs →
     (get_or (four bs k x0 x1 x2 x3) k 0 ≡ x0) × (get_or (four bs k x0 x1 x2 x3) (k + 1) 0 ≡ x1)
     × (get_or (four bs k x0 x1 x2 x3) (k + 2) 0 ≡ x2) × (get_or (four bs k x0 x1 x2 x3) (k + 3) 0 ≡ x3)
-get_or-four bs k x0 x1 x2 x3 h =
-    let b1 = set bs k x0 in
-    let b2 = set b1 (k + 1) x1 in
-    let b3 = set b2 (k + 2) x2 in
-    let l0 : k < length bs = omega arith in
-    let l1 : k + 1 < length b1 = simp length-set (omega arith) in
-    let l2 : k + 2 < length b2 = simp length-set (omega arith) in
-    let l3 : k + 3 < length b3 = simp length-set h in
-    let n01 : k ≢ k + 1 = omega arith in
-    let n02 : k ≢ k + 2 = omega arith in
-    let n03 : k ≢ k + 3 = omega arith in
-    let n12 : k + 1 ≢ k + 2 = omega arith in
-    let n13 : k + 1 ≢ k + 3 = omega arith in
-    let n23 : k + 2 ≢ k + 3 = omega arith in (
-      get_or-set_other b3 (k + 3) k x3 0 n03 ∙ (get_or-set_other b2 (k + 2) k x2 0 n02 ∙ (get_or-set_other b1 (k + 1) k x1 0 n01 ∙ get_or-set_same bs k x0 0 l0)),
-      get_or-set_other b3 (k + 3) (k + 1) x3 0 n13 ∙ (get_or-set_other b2 (k + 2) (k + 1) x2 0 n12 ∙ get_or-set_same b1 (k + 1) x1 0 l1),
-      get_or-set_other b3 (k + 3) (k + 2) x3 0 n23 ∙ get_or-set_same b2 (k + 2) x2 0 l2,
-      get_or-set_same b3 (k + 3) x3 0 l3,
-    )
+get_or-four bs k x0 x1 x2 x3 h = (grind (arith, common_steps), grind (arith, common_steps), grind (arith, common_steps), grind (arith, common_steps))
 
 pub length-with_word : (bs : List ℕ) (a w : ℕ) → length (with_word bs a w) ≡ length bs
 length-with_word bs a w = simp length-set
 
--- what lies past four values is not touched
-drop-four : (bs : List ℕ) (k n x0 x1 x2 x3 : ℕ) → k + 3 < n → drop n (four bs k x0 x1 x2 x3) ≡ drop n bs
-drop-four bs k n x0 x1 x2 x3 h =
-    let l0 : k < n = omega arith in
-    let l1 : k + 1 < n = omega arith in
-    let l2 : k + 2 < n = omega arith in
-    rw (drop-set-lt, drop-set-lt, drop-set-lt, drop-set-lt)
-
 pub spare-with_word : (bs : List ℕ) (a w : ℕ) → a < length bs / 4 → spare_bytes (with_word bs a w) ≡ spare_bytes bs
-spare-with_word bs a w h =
-    rw (length-with_word bs a w) (drop-four bs (4 * a) (4 * (length bs / 4)) (byte_of 0 w) (byte_of 1 w) (byte_of 2 w) (byte_of 3 w) (omega arith))
+spare-with_word bs a w h = grind (arith, common_steps)
 
 pub word_at-with_word-same : (bs : List ℕ) (a w : ℕ) → a < length bs / 4 → w < 2 ^ 32 → word_at (with_word bs a w) a ≡ w
 word_at-with_word-same bs a w h f =
@@ -96,3 +68,55 @@ words_of-with_word bs a w h f =
     (λ (e : b ≡ a). rw e (word_at-with_word-same bs a w h f ∙ sym (get_or-set_same (words_of bs) a w 0 l)))
     (λ (ne : b ≢ a). word_at-with_word-other bs a b w ne ∙ sym (get_or-set_other (words_of bs) a b w 0 ne ∙ get_or-words_of bs b inside))
     (cases_eq b a))
+
+-- chunk a of a row
+get_or-first_chunks : (bs : List ℕ) (k a : ℕ) (d : List ℕ) → a < k → get_or (first_chunks 4 k bs) a d ≡ take 4 (drop (4 * a) bs)
+get_or-first_chunks bs zero a d h = absurd (omega arith)
+get_or-first_chunks bs (suc k) zero d h = refl
+get_or-first_chunks bs (suc k) (suc a) d h = get_or-first_chunks (drop 4 bs) k a d (omega arith) ∙ (let n : 4 + 4 * a ≡ 4 * suc a = omega arith in ap (take 4) (drop-drop (4 * a) 4 bs ∙ ap (λ (i : ℕ). drop i bs) n))
+
+-- a chunk's bytes make its word
+pub found-word : (bs : List ℕ) (cs : List (List ℕ)) (ys : List ℕ) (a w : ℕ) → cs ≡ first_chunks 4 (length bs / 4) bs → length cs ≡ length bs / 4
+    → a < length cs → ys ≡ get_or cs a ys → w ≡ from_bytes (get_or ys 0 0) (get_or ys 1 0) (get_or ys 2 0) (get_or ys 3 0)
+    → Some w ≡ slice_get (words_of bs) a
+found-word bs cs ys a w e n h f g =
+    let y : ys ≡ take 4 (drop (4 * a) bs) = f ∙ (ap (λ (xs : List (List ℕ)). get_or xs a ys) e ∙ get_or-first_chunks bs (length bs / 4) a ys (omega arith)) in
+    let inside : a < length bs / 4 = omega arith in
+    let at : (i : ℕ) → i < 4 → get_or ys i 0 ≡ get_or bs (4 * a + i) 0 = λ i l. rw y (get_or-take 4 (drop (4 * a) bs) i 0 l ∙ get_or-drop (4 * a) bs i 0) in
+    let first : 4 * a + 0 ≡ 4 * a = omega arith in
+    let word : w ≡ word_at bs a = g ∙ rw (at 0 (omega arith), first, at 1 (omega arith), at 2 (omega arith), at 3 (omega arith)) in
+    sym (slice_get-get_or (words_of bs) a 0 (rw length-words_of inside) ∙ ap Some (get_or-words_of bs a inside ∙ sym word))
+
+pub no-word : (bs : List ℕ) (n a : ℕ) → n ≡ length bs / 4 → n ≤ a → None ≡ slice_get (words_of bs) a
+no-word bs n a e h = sym (slice_get_past (words_of bs) a (rw (length-words_of bs) (omega arith)))
+
+-- four values in the place of four others, at once and one by one
+put-four : (k : ℕ) (bs : List ℕ) (x0 x1 x2 x3 : ℕ) → k + 4 ≤ length bs
+    → take k bs ++ x0 ∷ x1 ∷ x2 ∷ x3 ∷ drop 4 (drop k bs) ≡ set (set (set (set bs k x0) (suc k) x1) (suc (suc k)) x2) (suc (suc (suc k))) x3
+put-four zero (b0 ∷ b1 ∷ b2 ∷ b3 ∷ bs) x0 x1 x2 x3 h = refl
+put-four zero (b0 ∷ b1 ∷ b2 ∷ []) x0 x1 x2 x3 h = absurd (omega arith)
+put-four zero (b0 ∷ b1 ∷ []) x0 x1 x2 x3 h = absurd (omega arith)
+put-four zero (b0 ∷ []) x0 x1 x2 x3 h = absurd (omega arith)
+put-four zero [] x0 x1 x2 x3 h = absurd (omega arith)
+put-four (suc k) (b ∷ bs) x0 x1 x2 x3 h = ap (λ (xs : List ℕ). b ∷ xs) (put-four k bs x0 x1 x2 x3 (omega arith))
+put-four (suc k) [] x0 x1 x2 x3 h = absurd (omega arith)
+
+-- a word's bytes in the place of word a: xs is the row after
+pub record Put (bs xs : List ℕ) (a w : ℕ) : Type 0 where
+  pub row : xs ≡ written_bytes bs a w
+  pub words : words_of xs ≡ written_words (words_of bs) a w
+  pub beside : spare_bytes xs ≡ spare_bytes bs
+
+pub put-word : (bs ys : List ℕ) (a n w : ℕ) → a < length bs / 4 → n ≡ 4 → w < 2 ^ 32 → ys ≡ w % 256 ∷ byte_of 1 w ∷ byte_of 2 w ∷ byte_of 3 w ∷ []
+    → Put bs (put_mid (4 * a) n bs ys) a w
+put-word bs ys a n w h long f e =
+    let e1 : 4 * a + 1 ≡ suc (4 * a) = omega arith in
+    let e2 : 4 * a + 2 ≡ suc (suc (4 * a)) = omega arith in
+    let e3 : 4 * a + 3 ≡ suc (suc (suc (4 * a))) = omega arith in
+    let put : put_mid (4 * a) n bs ys ≡ with_word bs a w =
+    rw (e, long, div-one w, e1, e2, e3) (put-four (4 * a) bs (w % 256) (byte_of 1 w) (byte_of 2 w) (byte_of 3 w) (omega arith)) in
+    record {
+      row = put ∙ cond_below a (length bs / 4) (with_word bs a w) bs h;
+      words = ap words_of put ∙ (words_of-with_word bs a w h f ∙ cond_below a (length (words_of bs)) (set (words_of bs) a w) (words_of bs) (rw length-words_of h));
+      beside = ap spare_bytes put ∙ spare-with_word bs a w h;
+    }

@@ -1,4 +1,5 @@
-// Code over any memories, written and proved once: it knows nothing of them but their interface.
+// Code over any memories, written and proved once: it knows nothing of them but their interface. So it goes by
+// addresses, as a memory shows no slice of its words.
 ghost use Rattle.std.specs.Prelude.{◌≡◌, ℕ, ◌≤◌, min, List, length, Ok};
 ghost use Rattle.memory.specs.Client.{shared, copied, differences};
 
@@ -18,7 +19,10 @@ pub fn copy_words<F: Memory, T: Memory>(from: &mut F, to: &mut T) -> Result<u32,
     ensures target_kept { T.Memory.sound to.new }
 {
     let n = from.size().min(to.size());
-    copy_first(from, to, n)?;
+    for a in 0..n {
+        let w = from.read(a)?;
+        to.write(a, w)?;
+    }
     Ok(n)
 }
 
@@ -38,48 +42,6 @@ pub fn count_differences<F: Memory, T: Memory>(
     ensures right_kept { T.Memory.sound right.new }
 {
     let n = left.size().min(right.size());
-    count_first(left, right, n)
-}
-
-// Copies the first n words, which both memories have.
-fn copy_first<F: Memory, T: Memory>(from: &mut F, to: &mut T, n: u32) -> Result<(), MemoryError>
-    requires source_sound { F.Memory.sound from.old }
-    requires target_sound { T.Memory.sound to.old }
-    requires source_long { n ≤ length (F.Memory.words from.old) }
-    requires target_long { n ≤ length (T.Memory.words to.old) }
-    ensures answer { result ≡ Ok tt }
-    ensures source { F.Memory.words from.new ≡ F.Memory.words from.old }
-    ensures target { T.Memory.words to.new ≡ copied n (F.Memory.words from.old) (T.Memory.words to.old) }
-    ensures source_beside { F.Memory.spare from.new ≡ F.Memory.spare from.old }
-    ensures target_beside { T.Memory.spare to.new ≡ T.Memory.spare to.old }
-    ensures source_kept { F.Memory.sound from.new }
-    ensures target_kept { T.Memory.sound to.new }
-{
-    for a in 0..n {
-        let w = from.read(a)?;
-        to.write(a, w)?;
-    }
-    Ok(())
-}
-
-// Counts the differences among the first n words, which both memories have.
-fn count_first<F: Memory, T: Memory>(
-    left: &mut F,
-    right: &mut T,
-    n: u32,
-) -> Result<u32, MemoryError>
-    requires left_sound { F.Memory.sound left.old }
-    requires right_sound { T.Memory.sound right.old }
-    requires left_long { n ≤ length (F.Memory.words left.old) }
-    requires right_long { n ≤ length (T.Memory.words right.old) }
-    ensures answer { result ≡ Ok (differences n (F.Memory.words left.old) (T.Memory.words right.old)) }
-    ensures left { F.Memory.words left.new ≡ F.Memory.words left.old }
-    ensures right { T.Memory.words right.new ≡ T.Memory.words right.old }
-    ensures left_beside { F.Memory.spare left.new ≡ F.Memory.spare left.old }
-    ensures right_beside { T.Memory.spare right.new ≡ T.Memory.spare right.old }
-    ensures left_kept { F.Memory.sound left.new }
-    ensures right_kept { T.Memory.sound right.new }
-{
     let mut differ = 0;
     for a in 0..n {
         let w = left.read(a)?;

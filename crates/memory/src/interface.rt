@@ -1,7 +1,7 @@
 // The one interface of all memories. Whatever is built above is proved once, against these contracts, and holds
 // for every memory.
 ghost use Rattle.std.specs.Prelude.{◌≡◌, ℕ, List, length};
-ghost use Rattle.memory.specs.Words.{read_answer, write_answer, written_words, MemorySize};
+ghost use Rattle.memory.specs.Words.{read_answer, write_answer, written_words, open_answer, MemorySize};
 
 use crate::error::MemoryError;
 
@@ -11,9 +11,6 @@ pub trait Memory {
 
     // What ties a memory to what lies below it. Opening gives it, and each call requires and keeps it.
     ghost sound: { Self → Type 0 };
-
-    // A memory has 1 to 4,096 words.
-    ghost sized: { (m : Self) → sound m → MemorySize (length (words m)) };
 
     // Bytes of the supplied row that belong to no word. No call changes them.
     ghost spare: { Self → List ℕ };
@@ -38,4 +35,17 @@ pub trait Memory {
         ensures after { words self.new ≡ written_words (words self.old) a w }
         ensures beside { spare self.new ≡ spare self.old }
         ensures kept { sound self.new };
+
+    // A memory has 1 to 4,096 words.
+    ghost sized: { (m : Self) → sound m → MemorySize (length (words m)) };
+}
+
+// Whether a memory may have so many words: 1 to 4,096.
+pub(crate) fn check_size(words: usize) -> Result<(), MemoryError>
+    ensures { result ≡ open_answer words }
+{
+    match words {
+        1..=4096 => Ok(()),
+        _ => Err(MemoryError::Size),
+    }
 }

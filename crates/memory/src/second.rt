@@ -24,9 +24,8 @@ impl Line {
         ensures { result ≡ word_in self a }
     {
         match self {
-            Line::Empty => None,
-            Line::Clean { tag, word } => if tag == a { Some(word) } else { None },
-            Line::Changed { tag, word } => if tag == a { Some(word) } else { None },
+            Line::Clean { tag, word } | Line::Changed { tag, word } if tag == a => Some(word),
+            _ => None,
         }
     }
 }
@@ -53,19 +52,19 @@ impl<M: Memory> SecondLevel<M> {
     }
 
     // Takes the cache apart: writes back what it held back, and hands over the memory below.
-    pub fn close(self) -> M
+    pub fn close(mut self) -> M
         requires { SoundCache M.Memory.words M.Memory.sound self }
         ensures words { M.Memory.words result ≡ counted (cached_of M.Memory.words self) }
         ensures beside { M.Memory.spare result ≡ M.Memory.spare self.below }
         ensures kept { M.Memory.sound result }
     {
-        let mut cache = self;
-        cache.give_up_all();
-        let SecondLevel { below, lines: _ } = cache;
+        self.give_up_all();
+        let SecondLevel { below, lines: _ } = self;
         below
     }
 
-    // Empties every line, so that the memory below has all words as the cache counts them.
+    // Empties every line, so that the memory below has all words as the cache counts them. It goes by numbers, since
+    // which addresses a line may hold depends on its number.
     fn give_up_all(&mut self)
         requires { SoundCache M.Memory.words M.Memory.sound self.old }
         ensures words { M.Memory.words self.new.below ≡ counted (cached_of M.Memory.words self.old) }
@@ -85,25 +84,11 @@ impl<M: Memory> SecondLevel<M> {
         ensures beside { M.Memory.spare self.new.below ≡ M.Memory.spare self.old.below }
         ensures kept { M.Memory.sound self.new.below }
     {
-        let line = self.lines[i];
-        match line {
-            Line::Empty => {}
-            Line::Clean { tag: _, word: _ } => {}
+        if let Line::Changed { tag, word } = self.lines[i] {
             // Never refused: the tag is an address of the memory below.
-            Line::Changed { tag, word } => {
-                let _ = self.below.write(tag, word);
-            }
+            let _ = self.below.write(tag, word);
         }
         self.lines[i] = Line::Empty;
-    }
-
-    // How many words the memory below has, and so the cache.
-    fn count(&self) -> u32
-        requires { SoundCache M.Memory.words M.Memory.sound self.now }
-        ensures below { result ≡ length (M.Memory.words self.now.below) }
-        ensures words { result ≡ length (counted (cached_of M.Memory.words self.now)) }
-    {
-        self.below.size()
     }
 
     // The word for address a in its line, if that holds it. A read of such an address gives that word and moves
@@ -114,8 +99,7 @@ impl<M: Memory> SecondLevel<M> {
         ensures answer { IfSome result (λ w. read_answer (counted (cached_of M.Memory.words self.now)) a ≡ Ok w) }
         ensures cached { OnSome result (after_read (cached_of M.Memory.words self.now) a ≡ cached_of M.Memory.words self.now) }
     {
-        let line = self.lines[a as usize % 64];
-        line.word_of(a)
+        self.lines[a as usize % 64].word_of(a)
     }
 
     // Frees the line of address a for it: one that holds another address is given up.
@@ -126,8 +110,7 @@ impl<M: Memory> SecondLevel<M> {
         ensures kept { M.Memory.sound self.new.below }
     {
         let i = a as usize % 64;
-        let line = self.lines[i];
-        if line.word_of(a).is_none() {
+        if self.lines[i].word_of(a).is_none() {
             self.give_up(i);
         }
     }
@@ -168,12 +151,12 @@ impl<M: Memory> Memory for SecondLevel<M> {
 
     ghost sound = { SoundCache M.Memory.words M.Memory.sound };
 
-    ghost sized = { λ s h. counted-sized (cached_of M.Memory.words s) (M.Memory.sized s.below h.0) };
-
     ghost spare = { λ s. M.Memory.spare s.below };
 
+    // The memory below has as many.
+    #[tactic(auto, using(crate::proofs::Caching::sizes))]
     fn size(&self) -> u32 {
-        self.count()
+        self.below.size()
     }
 
     // A hit gives the line's word. A miss takes the line.
@@ -192,6 +175,7 @@ impl<M: Memory> Memory for SecondLevel<M> {
     }
 
     // The line is changed from now on. A write reads nothing below.
+    #[tactic(auto, using(crate::proofs::Caching::sizes))]
     fn write(&mut self, a: u32, w: u32) -> Result<(), MemoryError>
         requires { SoundCache M.Memory.words M.Memory.sound self.old }
         ensures answer { result ≡ write_answer (counted (cached_of M.Memory.words self.old)) a }
@@ -200,10 +184,12 @@ impl<M: Memory> Memory for SecondLevel<M> {
         ensures kept { SoundCache M.Memory.words M.Memory.sound self.new }
         ensures cached { cached_of M.Memory.words self.new ≡ after_write (cached_of M.Memory.words self.old) a w }
     {
-        if a >= self.count() {
+        if a >= self.size() {
             return Err(MemoryError::Address);
         }
         self.put(a, w);
         Ok(())
     }
+
+    ghost sized = { λ s h. counted-sized (cached_of M.Memory.words s) (M.Memory.sized s.below h.0) };
 }

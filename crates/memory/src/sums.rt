@@ -14,18 +14,6 @@ pub fn checksum<M: Memory>(memory: &mut M) -> Result<u32, MemoryError>
     ensures kept { M.Memory.sound memory.new }
 {
     let n = memory.size();
-    sum_words(memory, n)
-}
-
-// The checksum of all n words.
-fn sum_words<M: Memory>(memory: &mut M, n: u32) -> Result<u32, MemoryError>
-    requires sound { M.Memory.sound memory.old }
-    requires whole { n ≡ length (M.Memory.words memory.old) }
-    ensures answer { result ≡ Ok (adler32 (M.Memory.words memory.old)) }
-    ensures after { M.Memory.words memory.new ≡ M.Memory.words memory.old }
-    ensures beside { M.Memory.spare memory.new ≡ M.Memory.spare memory.old }
-    ensures kept { M.Memory.sound memory.new }
-{
     let mut sum = 1;
     for a in 0..n {
         let w = memory.read(a)?;
@@ -38,11 +26,11 @@ fn sum_words<M: Memory>(memory: &mut M, n: u32) -> Result<u32, MemoryError>
 fn add_word(sum: u32, w: u32) -> u32
     ensures { result ≡ with_word_bytes sum w }
 {
-    let [b0, b1, b2, b3] = w.to_le_bytes();
-    add_byte(add_byte(add_byte(add_byte(sum, b0), b1), b2), b3)
+    w.to_le_bytes().into_iter().fold(sum, add_byte)
 }
 
 // The checksum after one more byte.
+#[tactic(auto, unfolding(crate::specs::Adler::with_byte))]
 fn add_byte(sum: u32, b: u8) -> u32
     ensures { result ≡ with_byte sum b }
 {

@@ -3,7 +3,7 @@ ghost use Rattle.std.specs.Prelude.{◌≡◌, ℕ, List, [], length, Ok};
 ghost use Rattle.memory.specs.Words.{read_answer, write_answer, written_words, open_answer, MemorySize};
 
 use crate::error::MemoryError;
-use crate::interface::Memory;
+use crate::interface::{Memory, check_size};
 
 // Letting one go ends the loan and loses nothing, as every word already lies in the row.
 #[derive(Drop)]
@@ -16,10 +16,7 @@ impl<'a> WordMemory<'a> {
     pub fn check(row: &[u32]) -> Result<(), MemoryError>
         ensures { result ≡ open_answer (length row.now) }
     {
-        if row.len() < 1 || row.len() > 4096 {
-            return Err(MemoryError::Size);
-        }
-        Ok(())
+        check_size(row.len())
     }
 
     // The memory over a row that passed the check.
@@ -45,14 +42,13 @@ impl Memory for WordMemory<'_> {
 
     ghost sound = { λ m. MemorySize (length m.row.now) };
 
-    ghost sized = { λ _ h. h };
-
     ghost spare = { λ _. [] };
 
     fn size(&self) -> u32 {
         self.row.len() as u32
     }
 
+    // Tested and indexed: of a row that `get` has lent a part of, nothing is known afterwards.
     fn read(&mut self, a: u32) -> Result<u32, MemoryError> {
         if a as usize >= self.row.len() {
             return Err(MemoryError::Address);
@@ -67,4 +63,6 @@ impl Memory for WordMemory<'_> {
         self.row[a as usize] = w;
         Ok(())
     }
+
+    ghost sized = { λ _ h. h };
 }

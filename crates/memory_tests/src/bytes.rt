@@ -1,5 +1,5 @@
 // Where byte memory puts a word: lowest byte first, and no other byte is touched.
-use memory::ByteMemory;
+use memory::{ByteMemory, Memory};
 use std::test::Fail;
 
 #[test]

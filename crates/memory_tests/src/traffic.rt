@@ -29,8 +29,6 @@ impl<M: Memory> Memory for Watched<M> {
 
     ghost sound = { λ m. M.Memory.sound m.below };
 
-    ghost sized = { λ m h. M.Memory.sized m.below h };
-
     ghost spare = { λ m. M.Memory.spare m.below };
 
     fn size(&self) -> u32 {
@@ -46,6 +44,8 @@ impl<M: Memory> Memory for Watched<M> {
         self.writes = self.writes.saturating_add(1);
         self.below.write(a, w)
     }
+
+    ghost sized = { λ m h. M.Memory.sized m.below h };
 }
 
 // Had the first two writes gone below, it would be three.

@@ -10,23 +10,24 @@ use Rattle.snooping.specs.States.{has_l, has_s}
 use Rattle.model.specs.declared.command.Command.{Command}
 use Rattle.model.specs.declared.command.Reply.{Reply}
 use Rattle.model.specs.declared.command.Asked.{Asked}
-use Rattle.model.specs.declared.command.Asked.TheVariants.{Played, Word, Tasks, OneLine, Report, Unknown}
+use Rattle.model.specs.declared.command.Asked.TheVariants.{Played, Word, Tasks, OneLine, Report}
+use Rattle.model.specs.declared.command.UnknownCode.{UnknownCode}
 
 -- what each code asks for
-abbrev pub asked_by : ℕ → ℕ → ℕ → ℕ → Asked
+abbrev pub asked_by : ℕ → ℕ → ℕ → ℕ → Result Asked UnknownCode
 asked_by code p a w =
-    cond (code == 0) (Played (Start p))
-    (cond (code == 1) (Played (Load p a))
-    (cond (code == 2) (Played (Store p a w))
-    (cond (code == 3) (Played (Squash p))
-    (cond (code == 4) (Played (Commit p))
-    (cond (code == 5) (Played (Replace p a))
-    (cond (code == 6) (Word a)
-    (cond (code == 7) Tasks
-    (cond (code == 8) (OneLine p a)
-    (cond (code == 9) Report Unknown)))))))))
+    cond (code == 0) (Ok (Played (Start p)))
+    (cond (code == 1) (Ok (Played (Load p a)))
+    (cond (code == 2) (Ok (Played (Store p a w)))
+    (cond (code == 3) (Ok (Played (Squash p)))
+    (cond (code == 4) (Ok (Played (Commit p)))
+    (cond (code == 5) (Ok (Played (Replace p a)))
+    (cond (code == 6) (Ok (Word a))
+    (cond (code == 7) (Ok Tasks)
+    (cond (code == 8) (Ok (OneLine p a))
+    (cond (code == 9) (Ok Report) (Err (record { code = code })))))))))))
 
-abbrev pub asked_of : Command → Asked
+abbrev pub asked_of : Command → Result Asked UnknownCode
 asked_of c = asked_by c.code c.p c.a c.w
 
 -- a status and five numbers
@@ -55,5 +56,6 @@ abbrev pub line_reply : Option Line → Reply
 line_reply None = nothing
 line_reply (Some x) = row 0 (bit (has_l x.state)) (bit (has_s x.state)) x.tag x.word (pointer_number x.next)
 
-abbrev pub report_reply : BusReport → Reply
-report_reply r = row 0 (kind_number r.kind) r.address (supplier_number r.supplier) r.invalidated r.written
+abbrev pub report_reply : Option BusReport → Reply
+report_reply None = nothing
+report_reply (Some r) = row 0 (kind_number r.kind) r.address (supplier_number r.supplier) r.invalidated r.written

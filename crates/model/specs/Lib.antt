@@ -1,2 +1,3 @@
 pub mod Commands
 pub mod Machines
+pub mod Refusals

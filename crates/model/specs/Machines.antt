@@ -1,12 +1,15 @@
 -- What a list of commands shows of a store: its plain state, and its bus if it has one.
-use Rattle.std.specs.Prelude.{ℕ, cond, ◌&&◌, List, [], ◌∷◌, ◌++◌, length, drop, Some, None, Option, ◌==◌, nat_le, nat_lt}
+use Rattle.std.specs.Prelude.{ℕ, cond, ◌&&◌, List, [], ◌∷◌, ◌++◌, length, drop, Some, None, Option, Ok, Err, Result, ◌==◌, nat_le, nat_lt}
 use Rattle.std.specs.Option.{option_map}
+use Rattle.versions.specs.declared.turn.Turn.{Turn}
 use Rattle.versions.specs.Plain.{Plain, opened, memory_words, active_tasks, answer_of, state_after, word_of}
+use Rattle.snooping.specs.declared.line.Line.{Line}
 use Rattle.snooping.specs.declared.report.BusReport.{BusReport}
 use Rattle.snooping.specs.Report.{report_after}
 use Rattle.snooping.specs.Snooping.{line_answer}
 use Rattle.model.specs.declared.command.Asked.{Asked}
-use Rattle.model.specs.declared.command.Asked.TheVariants.{Played, Word, Tasks, OneLine, Report, Unknown}
+use Rattle.model.specs.declared.command.Asked.TheVariants.{Played, Word, Tasks, OneLine, Report}
+use Rattle.model.specs.declared.command.UnknownCode.{UnknownCode}
 use Rattle.model.specs.declared.command.Command.{Command}
 use Rattle.model.specs.declared.command.Reply.{Reply}
 use Rattle.model.specs.Commands.{asked_of, number_reply, nothing, answer_reply, line_reply, report_reply}
@@ -16,31 +19,34 @@ pub record Seen : Type 0 where
   pub plain : Plain
   pub bus : Option BusReport
 
--- lines and report are told of a store with a bus
-abbrev pub line_seen : Option BusReport → Plain → ℕ → ℕ → Reply
-line_seen None s p c = nothing
-line_seen (Some r) s p c = line_reply (line_answer s p c)
+abbrev pub seen_of : {S : Type 0} → (S → Plain) → (S → Option BusReport) → S → Seen
+seen_of plain bus s = record { plain = plain s; bus = bus s }
 
-abbrev pub report_seen : Option BusReport → Reply
-report_seen None = nothing
-report_seen (Some r) = report_reply r
+-- lines are shown by a store with a bus
+abbrev pub line_seen : Option BusReport → Plain → ℕ → ℕ → Option Line
+line_seen None s p c = None
+line_seen (Some r) s p c = line_answer s p c
 
-abbrev pub reply_to : Seen → Asked → Reply
-reply_to m (Played t) = answer_reply (answer_of m.plain t)
-reply_to m (Word a) = answer_reply (word_of m.plain a)
-reply_to m Tasks = number_reply (active_tasks m.plain)
-reply_to m (OneLine p c) = line_seen m.bus m.plain p c
-reply_to m Report = report_seen m.bus
-reply_to m Unknown = nothing
+-- what the bus reports after a turn
+abbrev pub bus_after : Option BusReport → Plain → Turn → Option BusReport
+bus_after bus s t = option_map (λ r. report_after r s t) bus
+
+abbrev pub reply_to : Seen → Result Asked UnknownCode → Reply
+reply_to m (Ok (Played t)) = answer_reply (answer_of m.plain t)
+reply_to m (Ok (Word a)) = answer_reply (word_of m.plain a)
+reply_to m (Ok Tasks) = number_reply (active_tasks m.plain)
+reply_to m (Ok (OneLine p c)) = line_reply (line_seen m.bus m.plain p c)
+reply_to m (Ok Report) = report_reply m.bus
+reply_to m (Err e) = nothing
 
 -- only a turn changes anything
-abbrev pub seen_after : Seen → Asked → Seen
-seen_after m (Played t) = record { plain = state_after m.plain t; bus = option_map (λ r. report_after r m.plain t) m.bus }
-seen_after m (Word a) = m
-seen_after m Tasks = m
-seen_after m (OneLine p c) = m
-seen_after m Report = m
-seen_after m Unknown = m
+abbrev pub seen_after : Seen → Result Asked UnknownCode → Seen
+seen_after m (Ok (Played t)) = record { plain = state_after m.plain t; bus = bus_after m.bus m.plain t }
+seen_after m (Ok (Word a)) = m
+seen_after m (Ok Tasks) = m
+seen_after m (Ok (OneLine p c)) = m
+seen_after m (Ok Report) = m
+seen_after m (Err e) = m
 
 -- commands one after another
 abbrev pub replies_to : Seen → List Command → List Reply

@@ -1,4 +1,4 @@
-// Commands and replies as C sees them: rows of numbers.
+// Commands and replies as C sees them: rows of numbers, by which C tells commands apart and is told refusals and their likes.
 ghost use Rattle.std.specs.Prelude.{◌≡◌};
 ghost use Rattle.model.specs.Commands.{asked_of, answer_reply, number_reply, nothing, line_reply, report_reply};
 
@@ -16,7 +16,7 @@ pub struct Command {
 
 // A status and up to five numbers; those that a reply does not have are 0.
 #[repr(C)]
-#[derive(Clone, Copy)]
+#[derive(Clone, Copy, Default)]
 pub struct Reply {
     pub status: u32,
     pub first: u32,
@@ -35,81 +35,81 @@ pub enum Asked {
     // Line c of processor p.
     OneLine { p: u32, c: u32 },
     Report,
-    // No command has this code.
-    Unknown,
 }
 
-impl Command {
-    pub fn asked(self) -> Asked
-        ensures { result ≡ asked_of self }
-    {
-        let Command { code, p, a, w } = self;
+// No command has this code.
+#[derive(Clone, Copy)]
+pub struct UnknownCode {
+    pub code: u32,
+}
+
+impl TryFrom<Command> for Asked {
+    type Error = UnknownCode;
+
+    ghost try_from_gives = { λ command r. r ≡ asked_of command };
+
+    fn try_from(command: Command) -> Result<Asked, UnknownCode> {
+        let Command { code, p, a, w } = command;
         match code {
-            0 => Asked::Played(Turn::Start { p }),
-            1 => Asked::Played(Turn::Load { p, a }),
-            2 => Asked::Played(Turn::Store { p, a, w }),
-            3 => Asked::Played(Turn::Squash { p }),
-            4 => Asked::Played(Turn::Commit { p }),
-            5 => Asked::Played(Turn::Replace { p, a }),
-            6 => Asked::Word { a },
-            7 => Asked::Tasks,
-            8 => Asked::OneLine { p, c: a },
-            9 => Asked::Report,
-            _ => Asked::Unknown,
+            0 => Ok(Asked::Played(Turn::Start { p })),
+            1 => Ok(Asked::Played(Turn::Load { p, a })),
+            2 => Ok(Asked::Played(Turn::Store { p, a, w })),
+            3 => Ok(Asked::Played(Turn::Squash { p })),
+            4 => Ok(Asked::Played(Turn::Commit { p })),
+            5 => Ok(Asked::Played(Turn::Replace { p, a })),
+            6 => Ok(Asked::Word { a }),
+            7 => Ok(Asked::Tasks),
+            8 => Ok(Asked::OneLine { p, c: a }),
+            9 => Ok(Asked::Report),
+            _ => Err(UnknownCode { code }),
         }
     }
 }
 
 impl Reply {
-    // A number that was asked for.
-    pub fn number(n: u32) -> Reply
-        ensures { result ≡ number_reply n }
-    {
-        Reply {
-            status: 0,
-            first: n,
-            second: 0,
-            third: 0,
-            fourth: 0,
-            fifth: 0,
-        }
-    }
-
     // There is nothing to tell.
     pub fn nothing() -> Reply
         ensures { result ≡ nothing }
     {
         Reply {
             status: 255,
-            first: 0,
-            second: 0,
-            third: 0,
-            fourth: 0,
-            fifth: 0,
+            ..Reply::default()
         }
     }
+}
 
-    // The number that a turn gave, or its refusal's.
-    pub fn answer(answer: Answer) -> Reply
-        ensures { result ≡ answer_reply answer }
-    {
+// A number that was asked for.
+impl From<u32> for Reply {
+    ghost from_gives = { λ n r. r ≡ number_reply n };
+
+    fn from(n: u32) -> Reply {
+        Reply {
+            first: n,
+            ..Reply::default()
+        }
+    }
+}
+
+// The number that a turn gave, or its refusal's.
+impl From<Answer> for Reply {
+    ghost from_gives = { λ answer r. r ≡ answer_reply answer };
+
+    fn from(answer: Answer) -> Reply {
         match answer {
-            Ok(n) => Reply::number(n),
+            Ok(n) => Reply::from(n),
             Err(refusal) => Reply {
                 status: refusal.number() as u32,
-                first: 0,
-                second: 0,
-                third: 0,
-                fourth: 0,
-                fifth: 0,
+                ..Reply::default()
             },
         }
     }
+}
 
-    // The bits L and S, tag, word and pointer of a line, if there is one.
-    pub fn line(line: Option<Line>) -> Reply
-        ensures { result ≡ line_reply line }
-    {
+// The bits L and S, tag, word and pointer of a line, if there is one.
+impl From<Option<Line>> for Reply {
+    ghost from_gives = { λ line r. r ≡ line_reply line };
+
+    fn from(line: Option<Line>) -> Reply {
         match line {
             Some(line) => Reply {
                 status: 0,
@@ -122,18 +122,23 @@ impl Reply {
             None => Reply::nothing(),
         }
     }
+}
 
-    // The numbers of a bus report.
-    pub fn report(report: BusReport) -> Reply
-        ensures { result ≡ report_reply report }
-    {
-        Reply {
-            status: 0,
-            first: report.kind.number() as u32,
-            second: report.address,
-            third: report.supplier.number(),
-            fourth: report.invalidated,
-            fifth: report.written,
+// The numbers of a bus report, if there is a bus.
+impl From<Option<BusReport>> for Reply {
+    ghost from_gives = { λ report r. r ≡ report_reply report };
+
+    fn from(report: Option<BusReport>) -> Reply {
+        match report {
+            Some(report) => Reply {
+                status: 0,
+                first: report.kind.number() as u32,
+                second: report.address,
+                third: report.supplier.number(),
+                fourth: report.invalidated,
+                fifth: report.written,
+            },
+            None => Reply::nothing(),
         }
     }
 }

@@ -1,11 +1,12 @@
-// The model as a library for C: a list of commands is carried out on either store over the caller's words, and an image
-// and a turn text are played into the caller's buffer. No store lives between two calls; include/model.h declares them.
+// The model as a library for C: a list of commands is carried out on either store over the caller's words. No store lives
+// between two calls; include/model.h declares them.
 #![tactic(auto)]
 
 mod command;
 mod machine;
+mod refusal;
 mod run;
 
-pub use command::{Asked, Command, Reply};
+pub use command::{Asked, Command, Reply, UnknownCode};
 pub use machine::Machine;
 pub use run::{model_central, model_snooping};

@@ -1,43 +1,81 @@
 // Lists of commands, each list a whole run: a store is opened over the words, carries the commands out, and is closed.
-ghost use Rattle.std.specs.Prelude.{◌≡◌, ℕ, ◌≤◌, List, ◌++◌, length, drop, Some, None};
-ghost use Rattle.versions.specs.Plain.{opened};
+ghost use Rattle.std.specs.Prelude.{◌≡◌, ℕ, ◌≤◌, List, ◌++◌, length, drop, Some, None, OnOk, OnErr};
+ghost use Rattle.memory.specs.Words.{MemorySize};
+ghost use Rattle.versions.specs.Plain.{memory_words};
 ghost use Rattle.snooping.specs.Report.{quiet};
-ghost use Rattle.model.specs.Machines.{replies_to, seen_after_all, seen_at, run_answer, replies_after, words_after};
+ghost use Rattle.model.specs.Machines.{seen_of, replies_to, seen_after_all, seen_at, run_answer, replies_after, words_after};
+ghost use Rattle.model.specs.Refusals.{run_outcome, number_told};
 
 use crate::command::{Command, Reply};
 use crate::machine::Machine;
-use memory::WordMemory;
+use crate::refusal::RunRefusal;
+use memory::{Memory, WordMemory};
 use player::ListFault;
-use stores::{CentralBuffer, SnoopingStore, VersionStore};
+use stores::{CentralBuffer, SnoopingStore};
 
 // As many words as a memory may have.
 const MOST_WORDS: usize = 4096;
 
-// 0, or the number with which a run is refused before anything changes: 17 where the words can't be a memory, then 16
-// where there are fewer places for replies than commands.
-fn run_answer(words: &[u32], commands: usize, places: usize) -> u32
-    ensures { result ≡ run_answer (length words.now) commands places }
+// Whether a run may begin: the words can be a memory, and there is a place for the reply to each command.
+fn check(words: &[u32], commands: &[Command], replies: &[Reply]) -> Result<(), RunRefusal>
+    ensures { result ≡ run_outcome (length words.now) (length commands.now) (length replies.now) }
 {
-    if let Err(refusal) = WordMemory::check(words) {
-        return refusal.number() as u32;
+    WordMemory::check(words)?;
+    if replies.len() < commands.len() {
+        return Err(RunRefusal::from(ListFault::Full));
     }
-    if places < commands {
-        return ListFault::Full.number() as u32;
-    }
-    0
+    Ok(())
 }
 
-// Carries the commands out in their order and writes each reply at its command's place.
-fn carry_out_all<S: Machine>(store: &mut S, commands: &[Command], replies: &mut [Reply])
-    requires sound { S.Machine.sound store.old }
-    requires commands_in_bounds { length commands.now ≤ length replies.old }
-    ensures replies { replies.new ≡ replies_to (S.Machine.seen store.old) commands.now ++ drop (length commands.now) replies.old }
-    ensures after { S.Machine.seen store.new ≡ seen_after_all (S.Machine.seen store.old) commands.now }
-    ensures kept { S.Machine.sound store.new }
+// What C is told of a run: 0, or the number with which it is refused.
+fn told(outcome: Result<(), RunRefusal>) -> u32
+    ensures { result ≡ number_told outcome }
 {
-    for i in 0..commands.len() {
-        replies[i] = store.carry_out(commands[i]);
+    match outcome {
+        Ok(()) => 0,
+        Err(refusal) => refusal.number() as u32,
     }
+}
+
+// Carries the commands out in their order and writes each reply at its command's place. (Over `replies.iter_mut().zip(commands)`
+// a proof would know nothing of what is written.)
+#[tactic(auto, using(crate::proofs::Running::size_stays))]
+fn carry_out_all<S: Machine>(store: &mut S, commands: &[Command], replies: &mut [Reply])
+    requires sound { S.VersionStore.sound store.old }
+    requires commands_in_bounds { length commands.now ≤ length replies.old }
+    ensures replies { replies.new ≡ replies_to (seen_of S.VersionStore.plain S.Machine.bus store.old) commands.now ++ drop (length commands.now) replies.old }
+    ensures after { seen_of S.VersionStore.plain S.Machine.bus store.new ≡ seen_after_all (seen_of S.VersionStore.plain S.Machine.bus store.old) commands.now }
+    ensures size { length (memory_words (S.VersionStore.plain store.new)) ≡ length (memory_words (S.VersionStore.plain store.old)) }
+    ensures kept { S.VersionStore.sound store.new }
+{
+    for (i, command) in commands.iter().enumerate() {
+        replies[i] = store.carry_out(*command);
+    }
+}
+
+// The commands on a store over a copy of the words, which are then as the store leaves its memory. A library for C allocates
+// nothing: the copy lies in a row of fixed length, which the caller lends. That word memory means the same below this store as
+// elsewhere is asked, since a bound does not say it.
+fn run<'a, S: Machine<Below = WordMemory<'a>>>(
+    row: &'a mut [u32; MOST_WORDS],
+    words: &mut [u32],
+    commands: &[Command],
+    replies: &mut [Reply],
+) -> Result<(), RunRefusal>
+    requires words { (memory : _) → ⟦<S::Below as Memory>⟧.words memory ≡ memory.row.now }
+    requires sound { (memory : _) → MemorySize (length memory.row.now) → ⟦<S::Below as Memory>⟧.sound memory }
+    ensures outcome { result ≡ run_outcome (length words.old) (length commands.now) (length replies.old) }
+    ensures replies { OnOk result (replies.new ≡ replies_to (seen_at S.Machine.first_report words.old) commands.now ++ drop (length commands.now) replies.old) }
+    ensures words { OnOk result (words.new ≡ memory_words (seen_after_all (seen_at S.Machine.first_report words.old) commands.now).plain) }
+    ensures err { OnErr result ((replies.new ≡ replies.old) × (words.new ≡ words.old)) }
+{
+    check(words, commands, replies)?;
+    let copy = &mut row[..words.len()];
+    copy.copy_from_slice(words);
+    let mut store = S::open(WordMemory::open(copy));
+    carry_out_all(&mut store, commands, replies);
+    words.copy_from_slice(store.close().close());
+    Ok(())
 }
 
 // The commands on a snooping store over a copy of the words, which are then as the store leaves its memory.
@@ -51,17 +89,8 @@ pub extern "C" fn model_snooping(
     ensures replies { replies.new ≡ replies_after result (seen_at (Some quiet) words.old) commands.now replies.old }
     ensures words { words.new ≡ words_after result (seen_at (Some quiet) words.old) commands.now words.old }
 {
-    let told = run_answer(words, commands.len(), replies.len());
-    if told != 0 {
-        return told;
-    }
     let mut row = [0; MOST_WORDS];
-    let copy = &mut row[..words.len()];
-    copy.copy_from_slice(words);
-    let mut store = SnoopingStore::open(WordMemory::open(copy));
-    carry_out_all(&mut store, commands, replies);
-    words.copy_from_slice(store.close().close());
-    0
+    told(run::<SnoopingStore<WordMemory>>(&mut row, words, commands, replies))
 }
 
 // The commands on a central buffer, which has no lines and no bus to report of.
@@ -75,15 +104,6 @@ pub extern "C" fn model_central(
     ensures replies { replies.new ≡ replies_after result (seen_at None words.old) commands.now replies.old }
     ensures words { words.new ≡ words_after result (seen_at None words.old) commands.now words.old }
 {
-    let told = run_answer(words, commands.len(), replies.len());
-    if told != 0 {
-        return told;
-    }
     let mut row = [0; MOST_WORDS];
-    let copy = &mut row[..words.len()];
-    copy.copy_from_slice(words);
-    let mut store = CentralBuffer::open(WordMemory::open(copy));
-    carry_out_all(&mut store, commands, replies);
-    words.copy_from_slice(store.close().close());
-    0
+    told(run::<CentralBuffer<WordMemory>>(&mut row, words, commands, replies))
 }

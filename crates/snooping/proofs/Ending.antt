@@ -8,11 +8,11 @@ use Rattle.std.proofs.lemmas.Bool.{eqb-true, eqb-false, eq-eqb, ne_eqb, cases_eq
 use Rattle.versions.specs.declared.version.Version.{Version}
 use Rattle.versions.specs.Orders.{place_in, Apart}
 use Rattle.versions.specs.Plain.{laid_over_all, written_to}
-use Rattle.versions.specs.Tables.{Table, with_version, without, without_all, Fitting}
+use Rattle.versions.specs.Tables.{Table, with_version, without, without_all, Fitting, or_else}
 use Rattle.versions.specs.Versions.{no_version, is_held, is_own, laid_over, seen_by}
 use Rattle.snooping.specs.declared.line.Line.{Line}
 use Rattle.snooping.specs.declared.state.LineEvent.TheVariants.{Commit}
-use Rattle.snooping.specs.Caches.{LineTable, table_by, with_line, with_cache, holder, or_else, cut_to}
+use Rattle.snooping.specs.Grid.{LineTable, table_by, with_line, with_cache, holder, cut_to}
 use Rattle.snooping.specs.Lines.{blank, version_in, version_at, pointer_to, unlinked, ended}
 use Rattle.versions.proofs.Classes.{unheld-none}
 use Rattle.versions.proofs.Fits.{without_all-value, front_out, none-join, none-drop}

@@ -1,34 +1,55 @@
 -- One cache of the four changed, as the table of lines sees it.
-use Rattle.std.proofs.Common.{◌≡◌, ℕ, zero, suc, ◌+◌, ◌<◌, ◌≤◌, Bool, true, false, cond, eqb, ltb, List, [], ◌∷◌, map, length, get_or, set, replicate, is_some, sym, refl, ap, ◌∙◌, arith}
+use Rattle.std.proofs.Common.{◌≡◌, ℕ, zero, suc, ◌+◌, ◌%◌, ◌<◌, ◌≤◌, Bool, true, false, cond, ◌&&◌, eqb, ltb, List, [], ◌∷◌, map, length, get_or, set, replicate, is_some, sym, refl, ap, ◌∙◌, arith}
 use mathlib.Core.Path.{fun_ext}
 use Rattle.std.proofs.lemmas.List.{get_or-set_same, get_or-set_other, length-set, length-map, get_or_past}
-use Rattle.std.proofs.lemmas.Bool.{eqb-true, eqb-false, cond-true, cond-false, ltb-true, ltb-false, lt-ltb, le-ltb}
+use Rattle.std.proofs.lemmas.Bool.{eqb-true, eqb-false, cond-true, cond-false, ltb-true, ltb-false, lt-ltb, le-ltb, true≢false}
 use Rattle.snooping.specs.declared.cache.Cache.{Cache}
 use Rattle.snooping.specs.declared.line.Line.{Line}
-use Rattle.snooping.specs.declared.state.LineEvent.TheVariants.{Squash}
+use Rattle.snooping.specs.declared.state.LineEvent.TheVariants.{Squash, Commit}
 use Rattle.versions.specs.Orders.{place_in}
-use Rattle.snooping.specs.Caches.{LineTable, no_cache, line_in, Wide, with_cache, cut_to}
-use Rattle.snooping.specs.Lines.{blank, unlinked, ended}
+use Rattle.versions.specs.Versions.{is_held}
+use Rattle.snooping.specs.Grid.{LineTable, no_cache, line_in, Wide, Tagged, with_line, with_cache, cut_to}
+use Rattle.snooping.specs.Lines.{blank, version_in, unlinked, ended}
 
 pub get_d_map : (f : Line → Line) (xs : List Line) (c : ℕ) → f blank ≡ blank → get_or (map f xs) c blank ≡ f (get_or xs c blank)
 get_d_map f [] c e = sym e
 get_d_map f (x ∷ xs) zero e = refl
 get_d_map f (x ∷ xs) (suc c) e = get_d_map f xs c e
 
+-- a list with another element
+at_set : {A : Type 0} (xs : List A) (i : ℕ) (x d : A) → i < length xs → (k : ℕ) → get_or (set xs i x) k d ≡ cond (eqb k i) x (get_or xs k d)
+at_set xs i x d h k = go (eqb k i) refl
+  where
+    go : (t : Bool) → eqb k i ≡ t → get_or (set xs i x) k d ≡ cond t x (get_or xs k d)
+    go true e = ap (λ (r : ℕ). get_or (set xs i x) r d) (eqb-true k i e) ∙ get_or-set_same xs i x d h
+    go false e = get_or-set_other xs i k x d (λ same. eqb-false k i e same)
+
 module _ (cs : List Cache) (p : ℕ) (x : Cache) (wide : Wide cs) (h : p < 4) where
   cache-at : (q : ℕ) → get_or (set cs p x) q no_cache ≡ cond (eqb q p) x (get_or cs q no_cache)
-  cache-at q = go (eqb q p) refl
-    where
-      go : (t : Bool) → eqb q p ≡ t → get_or (set cs p x) q no_cache ≡ cond t x (get_or cs q no_cache)
-      go true e = ap (λ (r : ℕ). get_or (set cs p x) r no_cache) (eqb-true q p e) ∙ get_or-set_same cs p x no_cache (omega (arith, wide.caches))
-      go false e = get_or-set_other cs p q x no_cache (λ same. eqb-false q p e same)
+  cache-at = at_set cs p x no_cache (omega (arith, wide.caches))
 
-  pub wide-set : length x.lines ≡ 16 → Wide (set cs p x)
+  wide-set : length x.lines ≡ 16 → Wide (set cs p x)
   wide-set long = record { caches = length-set cs p x ∙ wide.caches; lines = λ q inside. go q inside (eqb q p) (cache-at q) }
     where
       go : (q : ℕ) → q < 4 → (t : Bool) → get_or (set cs p x) q no_cache ≡ cond t x (get_or cs q no_cache) → length (get_or (set cs p x) q no_cache).lines ≡ 16
       go q inside true e = ap (λ (y : Cache). length y.lines) e ∙ long
       go q inside false e = ap (λ (y : Cache). length y.lines) e ∙ wide.lines q inside
+
+  -- all lines of p's cache changed, and one
+  pub wide-mapped : (f : Line → Line) → x.lines ≡ map f (get_or cs p no_cache).lines → Wide (set cs p x)
+  wide-mapped f is = wide-set (ap length is ∙ (length-map (get_or cs p no_cache).lines f ∙ wide.lines p h))
+
+  pub wide-line : (c : ℕ) (y : Line) → x.lines ≡ set (get_or cs p no_cache).lines c y → Wide (set cs p x)
+  wide-line c y is = wide-set (ap length is ∙ (length-set (get_or cs p no_cache).lines c y ∙ wide.lines p h))
+
+  pub line-changed : (c : ℕ) (y : Line) → c < 16 → x.lines ≡ set (get_or cs p no_cache).lines c y → line_in (set cs p x) ≡ with_line (line_in cs) p c y
+  line-changed c y low is = fun_ext (λ q. fun_ext (λ d. ap (λ (z : Cache). get_or z.lines d blank) (cache-at q) ∙ go q d (eqb q p) refl))
+    where
+      go : (q d : ℕ) (t : Bool) → eqb q p ≡ t → get_or (cond t x (get_or cs q no_cache)).lines d blank ≡ cond (t && eqb d c) y (get_or (get_or cs q no_cache).lines d blank)
+      go q d true s =
+          ap (λ (l : List Line). get_or l d blank) is
+          ∙ (at_set (get_or cs p no_cache).lines c y blank (omega (arith, wide.lines p h)) d ∙ ap (λ (r : ℕ). cond (eqb d c) y (get_or (get_or cs r no_cache).lines d blank)) (sym (eqb-true q p s)))
+      go q d false s = refl
 
   pub cache-mapped : (f : Line → Line) → f blank ≡ blank → x.lines ≡ map f (get_or cs p no_cache).lines → line_in (set cs p x) ≡ with_cache (line_in cs) p f
   cache-mapped f e is = fun_ext (λ q. fun_ext (λ c. ap (λ (y : Cache). get_or y.lines c blank) (cache-at q) ∙ go q c (eqb q p) refl))
@@ -36,9 +57,6 @@ module _ (cs : List Cache) (p : ℕ) (x : Cache) (wide : Wide cs) (h : p < 4) wh
       go : (q c : ℕ) (t : Bool) → eqb q p ≡ t → get_or (cond t x (get_or cs q no_cache)).lines c blank ≡ cond t (f (get_or (get_or cs q no_cache).lines c blank)) (get_or (get_or cs q no_cache).lines c blank)
       go q c true s = ap (λ (l : List Line). get_or l c blank) is ∙ (get_d_map f (get_or cs p no_cache).lines c e ∙ ap (λ (r : ℕ). f (get_or (get_or cs r no_cache).lines c blank)) (sym (eqb-true q p s)))
       go q c false s = refl
-
-pub wide-map : (f : Line → Line) (cs : List Cache) (p : ℕ) (x : Cache) → Wide cs → p < 4 → x.lines ≡ map f (get_or cs p no_cache).lines → length x.lines ≡ 16
-wide-map f cs p x wide h is = ap length is ∙ (length-map (get_or cs p no_cache).lines f ∙ wide.lines p h)
 
 blanks : (n c : ℕ) → get_or (replicate n blank) c blank ≡ blank
 blanks zero c = refl
@@ -52,14 +70,6 @@ blank-rows x e (suc n) (suc q) c = blank-rows x e n q c
 
 pub new-lines : (x : Cache) → x.lines ≡ replicate 16 blank → line_in (replicate 4 x) ≡ (λ q c. blank)
 new-lines x e = fun_ext (λ q. fun_ext (λ c. blank-rows x e 4 q c))
-
-pub new-wide : (x : Cache) → x.lines ≡ replicate 16 blank → Wide (replicate 4 x)
-new-wide x e = record { caches = refl; lines = λ q h. row 4 q h }
-  where
-    row : (n q : ℕ) → q < n → length (get_or (replicate n x) q no_cache).lines ≡ 16
-    row zero q inside = absurd (omega arith)
-    row (suc n) zero inside = ap length e
-    row (suc n) (suc q) inside = row n q (omega arith)
 
 -- lines past the caches are blank
 pub past-blank : (cs : List Cache) → Wide cs → (q c : ℕ) → 4 ≤ q → line_in cs q c ≡ blank
@@ -107,3 +117,18 @@ cut-all-caches ps cs now p all wide is = is ∙ fun_ext (λ q. fun_ext (λ d. go
 
 pub cut-start : (ps : List ℕ) (ls : LineTable) → ls ≡ cut_below 0 ps ls
 cut-start ps ls = fun_ext (λ q. fun_ext (λ d. sym (cond-false (ltb q 0) (cut_to ps ls q d) (ls q d) (le-ltb q 0 (omega arith)))))
+
+-- tags stay in their lines where a cache ends, and where the caches are cut
+pub tagged-ended : (ls : LineTable) (p : ℕ) → Tagged ls → Tagged (with_cache ls p (ended Commit))
+tagged-ended ls p tagged = λ q c. go q c (eqb q p)
+  where
+    go : (q c : ℕ) (t : Bool) → is_held (version_in (cond t (ended Commit (ls q c)) (ls q c))) ≡ true → (cond t (ended Commit (ls q c)) (ls q c)).tag % 16 ≡ c
+    go q c true held = absurd (true≢false (sym held))
+    go q c false held = tagged q c held
+
+pub tagged-cut : (ps : List ℕ) (ls : LineTable) → Tagged ls → Tagged (cut_to ps ls)
+tagged-cut ps ls tagged = λ q c. go q c (is_some (place_in ps q))
+  where
+    go : (q c : ℕ) (t : Bool) → is_held (version_in (cond t (unlinked ps (ls q c)) blank)) ≡ true → (cond t (unlinked ps (ls q c)) blank).tag % 16 ≡ c
+    go q c true held = tagged q c held
+    go q c false held = absurd (true≢false (sym held))

@@ -4,9 +4,9 @@ use Rattle.std.specs.Option.{option_map}
 use Rattle.std.proofs.lemmas.Bool.{eqb-true, eq-eqb, cond-true, cond-false, true≢false}
 use Rattle.versions.specs.declared.version.Version.{Version}
 use Rattle.versions.specs.Orders.{place_in}
-use Rattle.versions.specs.Tables.{Table}
+use Rattle.versions.specs.Tables.{Table, or_else}
 use Rattle.versions.specs.Versions.{is_held, is_own, laid_over, seen_by, squashed_by}
-use Rattle.snooping.specs.Caches.{or_else, holder}
+use Rattle.snooping.specs.Grid.{holder}
 
 -- the first in line is at place 0, and the others one place further than in the rest
 pub first-place : (q : ℕ) (qs : List ℕ) → place_in (q ∷ qs) q ≡ Some 0

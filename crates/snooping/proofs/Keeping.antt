@@ -6,10 +6,10 @@ use Rattle.std.proofs.lemmas.List.{drop-append-le, take-append-le}
 use Rattle.std.proofs.lemmas.Bool.{eqb-true, eqb-false, eq-eqb, ne_eqb, cases_eq, cases_lt, cond-true, cond-false, true≢false, and_left, and_right, and_from}
 use Rattle.versions.specs.declared.version.Version.{Version}
 use Rattle.versions.specs.Orders.{place_in, Apart}
-use Rattle.versions.specs.Tables.{Table, with_version}
+use Rattle.versions.specs.Tables.{Table, with_version, or_else}
 use Rattle.versions.specs.Versions.{no_version, is_held, is_own, seen_by}
 use Rattle.snooping.specs.declared.line.Line.{Line}
-use Rattle.snooping.specs.Caches.{LineTable, table_by, with_line, holder, or_else}
+use Rattle.snooping.specs.Grid.{LineTable, table_by, with_line, holder}
 use Rattle.snooping.specs.Lines.{blank, version_in, version_at, with_next}
 use Rattle.versions.proofs.Classes.{unheld-none}
 use Rattle.versions.proofs.Tabling.{placed}

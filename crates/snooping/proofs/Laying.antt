@@ -1,23 +1,28 @@
 -- Lines that are as the words, the order and the versions demand are exactly the lines that the plain state determines.
-use Rattle.std.proofs.Common.{◌≡◌, ℕ, zero, suc, ◌%◌, ◌<◌, ◌≤◌, Bool, true, false, cond, ◌&&◌, ◌||◌, eqb, ◌⊎◌, List, [], ◌∷◌, map, length, get_or, take, drop, is_some, Some, None, Option, unwrap_or, sym, refl, ap, ◌∙◌, inl, inr, ⊎_elim, arith}
-use Rattle.std.specs.List.{range_with_len}
+use Rattle.std.proofs.Common.{◌≡◌, ℕ, zero, suc, ◌%◌, ◌<◌, ◌≤◌, Bool, true, false, cond, ◌&&◌, ◌||◌, eqb, leb, ltb, ◌⊎◌, List, [], ◌∷◌, map, length, get_or, take, drop, is_some, Some, None, Ok, Err, Option, unwrap_or, sym, refl, ap, ◌∙◌, inl, inr, ⊎_elim, arith}
+use Rattle.std.specs.List.{range_with_len, find}
 use Rattle.std.specs.Option.{option_map}
+use Rattle.std.specs.Result.{result_ok}
 use Rattle.std.proofs.lemmas.List.FromFn.{length-map-range_with_len, get_or-map-range_with_len}
 use Rattle.std.proofs.lemmas.List.{map-append, get_or_past, ext_get_or}
-use Rattle.std.proofs.lemmas.Bool.{eqb-true, eqb-false, cases_lt, cond-false, true≢false}
+use Rattle.std.proofs.lemmas.Bool.{eqb-true, eqb-false, leb-false, lt-ltb, and_from, cases_lt, cond-true, cond-false, true≢false}
+use Rattle.versions.specs.declared.refusal.Refusal.{Refusal}
+use Rattle.versions.specs.declared.refusal.Refusal.TheVariants.{NoProcessor}
 use Rattle.versions.specs.declared.version.Version.{Version}
 use Rattle.versions.specs.Cuts.{up_to, past}
 use Rattle.versions.specs.Orders.{place_in, Apart}
 use Rattle.versions.specs.Plain.{Task, Plain, fresh, is_on, task_on, column}
-use Rattle.versions.specs.Tables.{Table, task_by, plain_of, Fitting}
+use Rattle.versions.specs.Processors.{processor_answer}
+use Rattle.versions.specs.Tables.{Table, task_by, plain_of, Fitting, of_class}
 use Rattle.versions.specs.Versions.{no_version, is_held, is_own, laid_over, seen_by}
 use Rattle.snooping.specs.declared.cache.Cache.{Cache}
 use Rattle.snooping.specs.declared.line.Line.{Line}
 use Rattle.snooping.specs.declared.state.LineState.{LineState}
 use Rattle.snooping.specs.declared.state.LineState.TheVariants.{Invalid, Loaded, Stored, Both}
-use Rattle.snooping.specs.Caches.{LineTable, no_cache, line_in, Wide, table_by, first_that, holder}
-use Rattle.snooping.specs.Layout.{of_class, held_in, next_holder, line_for, line_of, lines_of}
+use Rattle.snooping.specs.Grid.{LineTable, no_cache, line_in, Wide, table_by, holder}
+use Rattle.snooping.specs.Layout.{held_in, next_holder, line_for, line_of, lines_of}
 use Rattle.snooping.specs.Lines.{blank, version_in}
+use Rattle.snooping.specs.Snooping.{line_answer}
 use Rattle.snooping.specs.States.{has_l, has_s, with_bits}
 use Rattle.versions.proofs.Ordering.{place_none, none-some, apart_below}
 use Rattle.versions.proofs.Tabling.{placed, task_on-is, past_is, given-load}
@@ -80,7 +85,7 @@ module _ (ws ps : List ℕ) (table : Table) where
   next-is a (q ∷ qs) = go (is_held (table q a)) (next-is a qs)
     where
       go : (t : Bool) → next_holder a (map (task_by table) qs) ≡ holder table a qs
-          → option_map (λ u. u.on) (cond t (Some (task_by table q)) (first_that (λ u. is_held (u.at a)) (map (task_by table) qs))) ≡ cond t (Some q) (holder table a qs)
+          → option_map (λ u. u.on) (cond t (Some (task_by table q)) (find (λ u. is_held (u.at a)) (map (task_by table) qs))) ≡ cond t (Some q) (holder table a qs)
       go true e = refl
       go false e = e
 
@@ -279,15 +284,33 @@ caches-laid ws ps cs wide x apart fits =
     same-cache : (x y : Cache) → x.lines ≡ y.lines → x ≡ y
     same-cache x y e = ap (λ (l : List Line). record { lines = l }) e
 
-pub laid-caches : (ws ps : List ℕ) (cs : List Cache) → Wide cs → cs ≡ lines_of (plain_of ws ps (table_by (line_in cs))) → Apart ps → Laid ws ps (line_in cs)
+-- one line of those that a plain state determines
+pub line-at : (s : Plain) (q c : ℕ) → q < 4 → c < 16 → line_in (lines_of s) q c ≡ line_of s q c
 unfolding lines_of
+line-at s q c h l =
+    ap (λ (x : Cache). get_or x.lines c blank) (get_or-map-range_with_len (λ p. record { lines = map (line_of s p) (range_with_len 0 16) }) 0 4 q q no_cache h (omega arith))
+    ∙ get_or-map-range_with_len (line_of s q) 0 16 c c blank l (omega arith)
+
+-- a line that a user asks for, by any two numbers
+pub line-asked : (s : Plain) (p c q d : ℕ) (x : Line) → Some q ≡ result_ok (processor_answer p) → Some d ≡ cond (leb 16 c) None (Some c) → (q < 4 → d < 16 → x ≡ line_of s q d) → Some x ≡ line_answer s p c
+line-asked s p c q d x at_p at-c is = go (leb 4 p) (leb 16 c) refl refl at_p at-c
+  where
+    go : (t u : Bool) → leb 4 p ≡ t → leb 16 c ≡ u → Some q ≡ result_ok {E = Refusal} (cond t (Err NoProcessor) (Ok p)) → Some d ≡ cond u None (Some c) → Some x ≡ line_answer s p c
+    go true u f g y z = absurd (none-some q y)
+    go false true f g y z = absurd (none-some d z)
+    go false false f g y z =
+        let low : p < 4 = leb-false 4 p f in
+        let low₁ : c < 16 = leb-false 16 c g in
+        let q-is : q ≡ p = cc in
+        let d-is : d ≡ c = cc in
+        ap Some (is (omega arith) (omega arith) ∙ (ap (λ (r : ℕ). line_of s r d) q-is ∙ ap (line_of s p) d-is))
+        ∙ sym (cond-true (ltb p 4 && ltb c 16) (Some (line_of s p c)) None (and_from (ltb p 4) (ltb c 16) (lt-ltb p 4 low) (lt-ltb c 16 low₁)))
+
+pub laid-caches : (ws ps : List ℕ) (cs : List Cache) → Wide cs → cs ≡ lines_of (plain_of ws ps (table_by (line_in cs))) → Apart ps → Laid ws ps (line_in cs)
 laid-caches ws ps cs wide is apart = line-laid ws ps (line_in cs) apart (λ q c. ⊎_elim (λ (h : q < 4). inner q c h) (λ (h : 4 ≤ q). past-blank cs wide q c h ∙ sym (idle-line ws ps (table_by (line_in cs)) q c (beyond q h))) (cases_lt q 4))
   where
     s : Plain
     s = plain_of ws ps (table_by (line_in cs))
-
-    cache : ℕ → Cache
-    cache p = record { lines = map (line_of (plain_of ws ps (table_by (line_in cs))) p) (range_with_len 0 16) }
 
     beyond : (q : ℕ) → 4 ≤ q → place_in ps q ≡ None
     beyond q h = go (place_in ps q) refl
@@ -296,9 +319,6 @@ laid-caches ws ps cs wide is apart = line-laid ws ps (line_in cs) apart (λ q c.
         go None e = refl
         go (Some k) e = absurd (omega (arith, apart_below ps k apart (placed ps q k e).within, place-value ps q k e))
 
-    row : (q : ℕ) → q < 4 → get_or cs q no_cache ≡ cache q
-    row q h = ap (λ (l : List Cache). get_or l q no_cache) is ∙ get_or-map-range_with_len cache 0 4 q q no_cache h (omega arith)
-
     far : (q c : ℕ) → 16 ≤ c → (o : Option ℕ) → place_in ps q ≡ o → line_of (plain_of ws ps (table_by (line_in cs))) q c ≡ blank
     far q c h None e = idle-line ws ps (table_by (line_in cs)) q c e
     far q c h (Some k) e = active-line ws ps (table_by (line_in cs)) apart q k e c ∙ ap (line_for (plain_of ws ps (table_by (line_in cs))) q) (far-class (table_by (line_in cs) q) c (length ws) h)
@@ -306,6 +326,6 @@ laid-caches ws ps cs wide is apart = line-laid ws ps (line_in cs) apart (λ q c.
     inner : (q c : ℕ) → q < 4 → line_in cs q c ≡ line_of (plain_of ws ps (table_by (line_in cs))) q c
     inner q c h =
         ⊎_elim
-        (λ (l : c < 16). ap (λ (x : Cache). get_or x.lines c blank) (row q h) ∙ get_or-map-range_with_len (line_of s q) 0 16 c c blank l (omega arith))
+        (λ (l : c < 16). ap (λ (xs : List Cache). line_in xs q c) is ∙ line-at s q c h l)
         (λ (l : 16 ≤ c). get_or_past (get_or cs q no_cache).lines c blank (omega (arith, wide.lines q h)) ∙ sym (far q c l (place_in ps q) refl))
         (cases_lt c 16)

@@ -7,4 +7,3 @@ mod Laying
 mod Watching
 mod Reporting
 mod Snooped
-mod Writing

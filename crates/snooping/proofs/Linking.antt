@@ -9,8 +9,8 @@ use Rattle.versions.specs.Tables.{Table}
 use Rattle.versions.specs.Versions.{is_held}
 use Rattle.versions.proofs.Ordering.{place_none}
 use Rattle.snooping.specs.declared.line.Line.{Line}
-use Rattle.snooping.specs.Caches.{LineTable, table_by, with_line, holder, linked, relinked}
-use Rattle.snooping.specs.Lines.{version_at, with_next}
+use Rattle.snooping.specs.Grid.{LineTable, Tagged, table_by, with_line, holder, linked, relinked}
+use Rattle.snooping.specs.Lines.{version_in, version_at, with_next}
 
 -- what does not look at pointers does not see a link
 module _ {B : Type 0} (F : Line → B) (blind : (x : Line) (n : Option ℕ) → F (with_next x n) ≡ F x) where
@@ -35,6 +35,11 @@ module _ {B : Type 0} (F : Line → B) (blind : (x : Line) (n : Option ℕ) → 
 
 pub relinked-table : (ps : List ℕ) (a : ℕ) (ls : LineTable) → table_by (relinked ps a ls) ≡ table_by ls
 relinked-table ps a ls = fun_ext (λ q. fun_ext (λ b. relinked-same (λ x. version_at x b) (λ x n. refl) ps a ls q (b % 16)))
+
+-- tags stay in their lines
+pub tagged-relinked : (ps : List ℕ) (a : ℕ) (ls : LineTable) → Tagged ls → Tagged (relinked ps a ls)
+tagged-relinked ps a ls tagged = λ q d held.
+    relinked-same (λ x. x.tag % 16) (λ x n. refl) ps a ls q d ∙ tagged q d (sym (relinked-same (λ x. is_held (version_in x)) (λ x n. refl) ps a ls q d) ∙ held)
 
 linked-other : (ls : LineTable) (p a : ℕ) (n : Option ℕ) (q d : ℕ) → (eqb q p && eqb d (a % 16)) ≡ false → linked ls p a n q d ≡ ls q d
 linked-other ls p a n q d e = go (is_held (table_by ls p a))
@@ -106,11 +111,11 @@ relinked-held (p ∷ ps) a ls q k apart place has-line = go (eqb p q) refl place
 
 -- one task more, from the youngest on
 module _ (ps : List ℕ) (a i : ℕ) (ls now later : LineTable) (next : Option ℕ) (p : ℕ) (h : 0 < i) (le : i ≤ length ps) (so_far : now ≡ relinked (drop i ps) a ls)
-    (next-is : next ≡ holder (table_by ls) a (drop i ps)) (p-is : p ≡ get_or ps (i - 1) 0) where
+    (next-is : next ≡ holder (table_by ls) a (drop i ps)) (p-is : p ≡ get_or ps (i - 1) p) where
   split : drop (i - 1) ps ≡ p ∷ drop i ps
   split =
       let on : i - 1 + 1 ≡ i = omega arith in
-      drop_more ps (i - 1) 0 (omega arith) ∙ (ap (λ (r : ℕ). r ∷ drop (i - 1 + 1) ps) (sym p-is) ∙ ap (λ (j : ℕ). p ∷ drop j ps) on)
+      drop_more ps (i - 1) p (omega arith) ∙ (ap (λ (r : ℕ). r ∷ drop (i - 1 + 1) ps) (sym p-is) ∙ ap (λ (j : ℕ). p ∷ drop j ps) on)
 
   same-held : is_held (table_by now p a) ≡ is_held (table_by ls p a)
   same-held = ap (λ (x : LineTable). is_held (table_by x p a)) so_far ∙ ap (λ (t : Table). is_held (t p a)) (relinked-table (drop i ps) a ls)

@@ -7,14 +7,14 @@ use Rattle.versions.specs.declared.turn.Turn.TheVariants.{Load, Store, Commit, R
 use Rattle.versions.specs.Cuts.{any, before, past}
 use Rattle.versions.specs.Orders.{place_in, Apart}
 use Rattle.versions.specs.Plain.{Task, Plain, is_on, refusal_of, given, answer_by, answer_of}
-use Rattle.versions.specs.Tables.{Table, task_by, plain_of}
+use Rattle.versions.specs.Tables.{Table, task_by, plain_of, last_own, or_else}
 use Rattle.versions.specs.Versions.{is_own, is_held}
 use Rattle.versions.proofs.Tabling.{placed, task_on-is, before-is, past_is, given-commit}
 use Rattle.snooping.specs.declared.report.BusReport.{BusReport}
-use Rattle.snooping.specs.Caches.{last_that, or_else, holder}
-use Rattle.snooping.specs.Report.{quiet, bus_read, bus_write, written_back, supplied_by, last_owner, reached, powers, last_own, written_last, report_by, report_of, report_after}
+use Rattle.snooping.specs.Grid.{last_that, holder}
+use Rattle.snooping.specs.Report.{quiet, bus_read, bus_write, written_back, supplied_by, last_owner, reached, powers, written_last, report_by, report_of, report_after}
 
-no_answer : (n : ℕ) (e : Refusal) → ◌≡◌ {A = Result ℕ Refusal} (Ok n) (Err e) → ⊥
+pub no_answer : (n : ℕ) (e : Refusal) → ◌≡◌ {A = Result ℕ Refusal} (Ok n) (Err e) → ⊥
 no_answer n e f = let z : ◌≡◌ {A = ℕ} 0 1 = cc in absurd (omega arith)
 
 -- an accepted turn is reported, and a refused one is not

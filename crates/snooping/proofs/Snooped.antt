@@ -1,24 +1,27 @@
 -- A turn that the snooping store serves: from its changes of words, order and lines to the plain store's answer and state,
 -- the lines of that state, and the report.
-use Rattle.std.proofs.Common.{◌≡◌, ℕ, zero, suc, ◌+◌, ◌-◌, ◌%◌, ◌<◌, ◌≤◌, Bool, true, false, cond, not, ◌&&◌, ◌||◌, eqb, List, [], ◌∷◌, ◌++◌, map, length, get_or, take, drop, is_some, Some, None, Ok, Err, Option, Result, unwrap_or, sym, refl, ap, ◌∙◌, subst, ⊎_elim, add-one, arith}
+use Rattle.std.proofs.Common.{◌≡◌, ℕ, zero, suc, ◌+◌, ◌-◌, ◌%◌, ◌<◌, ◌≤◌, Bool, true, false, cond, not, ◌&&◌, ◌||◌, eqb, leb, List, [], ◌∷◌, ◌++◌, map, length, get_or, take, drop, is_some, Some, None, Ok, Err, Option, Result, unwrap_or, sym, refl, ap, ◌∙◌, subst, ⊎_elim, add-one, arith}
 use mathlib.Core.Path.{fun_ext}
 use Rattle.std.specs.Option.{option_map}
 use Rattle.std.proofs.lemmas.List.{drop-take, take-take, take-append-drop, take_all, drop_all, map-append, length-map, length-drop, get_or-drop}
-use Rattle.std.proofs.lemmas.Bool.{eqb-true, eq-eqb, ne_eqb, cases_eq, cases_lt, cond-true, cond-false, true≢false, and_left, and_from}
+use Rattle.std.proofs.lemmas.Bool.{eqb-true, eq-eqb, ne_eqb, cases_eq, cases_lt, cond-true, cond-false, true≢false, and_left, and_from, lt-leb}
 use Rattle.memory.specs.Client.{count_below}
 use Rattle.versions.specs.declared.refusal.Refusal.{Refusal}
+use Rattle.versions.specs.declared.refusal.Refusal.TheVariants.{NoProcessor, TaskActive}
 use Rattle.versions.specs.declared.turn.Turn.{Turn}
 use Rattle.versions.specs.declared.turn.Turn.TheVariants.{Start, Load, Store, Squash, Commit, Replace}
 use Rattle.versions.specs.declared.version.Version.{Version}
 use Rattle.versions.specs.Orders.{place_in, Apart}
-use Rattle.versions.specs.Plain.{Plain, laid_over_all, written_to, answer_of, state_after}
-use Rattle.versions.specs.Tables.{Table, plain_of, empty_table, with_version, without, without_all, Fitting, access_place, squash_place, commit_place, replace_place}
+use Rattle.versions.specs.Plain.{Plain, refusal_of, laid_over_all, written_to, answer_of, state_after}
+use Rattle.versions.specs.Processors.{processor_answer}
+use Rattle.versions.specs.Tables.{Table, plain_of, empty_table, with_version, without, without_all, Fitting, access_place, start_place, squash_place, commit_place, replace_place, last_own, or_else}
+use Rattle.versions.specs.Turns.{processor_of}
 use Rattle.versions.specs.Versions.{no_version, is_held, is_own, with_load, with_store, laid_over, seen_by, squashed_by}
 use Rattle.versions.proofs.Classes.{unheld-none}
 use Rattle.versions.proofs.Fits.{none-join, without_all-value, front_out}
-use Rattle.versions.proofs.Judging.{ok-access, ok-commit, ok-replace}
+use Rattle.versions.proofs.Judging.{Agrees, start-agrees, no-processor, ok-access, ok-commit, ok-replace}
 use Rattle.versions.proofs.Ordering.{apart-push, apart-take, apart-drop, apart_below, none-some}
-use Rattle.versions.proofs.Serving.{Served, class-free, serve-start, serve-load, serve-store, serve-squash, serve-commit, serve-replace}
+use Rattle.versions.proofs.Serving.{Served, refused-by, class-free, serve-start, serve-load, serve-store, serve-squash, serve-commit, serve-replace}
 use Rattle.versions.proofs.Tabling.{placed, none-past, place-take, squashes, squashes-le}
 use Rattle.snooping.specs.declared.cache.Cache.{Cache}
 use Rattle.snooping.specs.declared.line.Line.{Line}
@@ -26,18 +29,20 @@ use Rattle.snooping.specs.declared.report.BusReport.{BusReport}
 use Rattle.snooping.specs.declared.state.LineState.{LineState}
 use Rattle.snooping.specs.declared.state.LineState.TheVariants.{Invalid, Loaded, Stored, Both}
 use Rattle.snooping.specs.declared.state.LineEvent.TheVariants.{Commit as CommitLine}
-use Rattle.snooping.specs.Caches.{LineTable, line_in, Wide, table_by, with_line, with_cache, last_that, or_else, holder, relinked, cut_to}
+use Rattle.snooping.specs.declared.store.SnoopingStore.{SnoopingStore}
+use Rattle.snooping.specs.Caches.{processors_of}
+use Rattle.snooping.specs.Grid.{LineTable, line_in, Wide, table_by, with_line, with_cache, last_that, holder, relinked, cut_to}
 use Rattle.snooping.specs.Layout.{lines_of}
 use Rattle.snooping.specs.Lines.{blank, version_in, version_at, with_loaded, with_stored, with_next, ended}
-use Rattle.snooping.specs.Report.{quiet, bus_read, bus_write, written_back, supplied_by, reached, powers, last_own, written_last, report_of, report_after}
-use Rattle.snooping.specs.Snooping.{supplied_word}
+use Rattle.snooping.specs.Report.{quiet, bus_read, bus_write, written_back, supplied_by, reached, powers, written_last, report_of, report_after}
+use Rattle.snooping.specs.Snooping.{plain_in, SoundSnooping, Shown, Took, supplied_word}
 use Rattle.snooping.specs.States.{has_s}
 use Rattle.snooping.proofs.Ending.{cut-table, keep-cut, commit-table, keep-commit, replace-table, keep-replace}
 use Rattle.snooping.proofs.Holders.{holder-same, holder-none, same-column, seen-append, seen-owns, hidden-copy, take-place, place-once, place-value}
 use Rattle.snooping.proofs.Keeping.{Laid, shown, shows, keep-start, mid, mid-table, keep-change}
 use Rattle.snooping.proofs.Laying.{caches-laid, laid-caches, own-word, some-if, last-seen}
 use Rattle.snooping.proofs.Linking.{relinked-same, relinked-class, relinked-unheld, relinked-held, relinked-table}
-use Rattle.snooping.proofs.Reporting.{reported, unreported, report-load, report-store, report-commit, report-replace}
+use Rattle.snooping.proofs.Reporting.{no_answer, reported, unreported, report-load, report-store, report-commit, report-replace}
 
 pub record Turned (s : Plain) (t : Turn) (old : BusReport) (r : Result ℕ Refusal) (ws ps : List ℕ) (cs : List Cache) (now : BusReport) : Type 0 where
   pub answer : r ≡ answer_of s t
@@ -279,6 +284,21 @@ module _ (ws ps : List ℕ) (ls : LineTable) (x : Laid ws ps ls) (apart : Apart 
           ⊎_elim (λ (class : c ≡ a % 16). relinked-unheld ps a (with_line ls p (a % 16) y) q c (unshown q c class (λ h t. true≢false (sym h ∙ none))))
           (λ (class : c ≡ a % 16 → ⊥). relinked-class ps a (with_line ls p (a % 16) y) q c (ne_eqb c (a % 16) class)) (cases_eq c (a % 16))
 
+pub ok-start : (ps : List ℕ) (p k : ℕ) → Ok k ≡ start_place ps p → (place_in ps p ≡ None) × (k ≡ length ps)
+ok-start ps p k e = go (place_in ps p) e
+  where
+    go : (o : Option ℕ) → Ok k ≡ cond (is_some o) (Err TaskActive) (Ok (length ps)) → (o ≡ None) × (k ≡ length ps)
+    go None f = (refl, cc)
+    go (Some j) f = absurd (no_answer k TaskActive f)
+
+pub start-judged : (ws ps : List ℕ) (table : Table) (p : ℕ) → p < 4 → Agrees (start_place ps p) (refusal_of (plain_of ws ps table) (Start p))
+start-judged ws ps table p h =
+    subst (Agrees (start_place ps p)) (sym (start-agrees ws ps table p ∙ cond-false (leb 4 p) (Some NoProcessor) (cond (is_some (place_in ps p)) (Some TaskActive) None) (lt-leb 4 p h))) (go (is_some (place_in ps p)))
+  where
+    go : (t : Bool) → Agrees (cond t (Err TaskActive) (Ok (length ps))) (cond t (Some TaskActive) None)
+    go true = refl
+    go false = refl
+
 -- from a state whose lines are those of the plain state
 module _ (ws ps : List ℕ) (cs : List Cache) (wide : Wide cs) (apart : Apart ps) (fits : Fitting (length ws) ps (table_by (line_in cs)))
     (lines : cs ≡ lines_of (plain_of ws ps (table_by (line_in cs)))) (old : BusReport) where
@@ -294,17 +314,16 @@ module _ (ws ps : List ℕ) (cs : List Cache) (wide : Wide cs) (apart : Apart ps
   pub laid : Laid ws ps (line_in cs)
   laid = laid-caches ws ps cs wide lines apart
 
-  -- a refused turn changes nothing
-  pub turn-refused : (t : Turn) (r : Result ℕ Refusal) (e : Refusal) → r ≡ Err e → r ≡ answer_of state t → state ≡ state_after state t → Turned state t old r ws ps cs old
-  turn-refused t r e is answer after = record { answer = answer; after = after; fits = fits; lines = lines; report = unreported old state t e (sym is ∙ answer) }
-
-  pub turn-start : (p : ℕ) (later : List ℕ) (new : List Cache) (now : BusReport) → p < 4 → place_in ps p ≡ None → later ≡ ps ++ p ∷ [] → new ≡ cs → now ≡ quiet
-      → Turned state (Start p) old (Ok (length ps)) ws later new now
-  turn-start p later new now h none order same report =
-      subst (λ (x : List Cache). Turned state (Start p) old (Ok (length ps)) ws later x now) (sym same)
+  pub turn-start : (p k : ℕ) (later : List ℕ) (new : List Cache) (now : BusReport) → p < 4 → Ok k ≡ start_place ps p → later ≡ ps ++ p ∷ [] → new ≡ cs → now ≡ quiet
+      → Turned state (Start p) old (Ok k) ws later new now
+  turn-start p k later new now h ok order same report =
+      let y = ok-start ps p k ok in
+      let none = y.0 in
+      subst (λ (j : ℕ). Turned state (Start p) old (Ok j) ws later new now) (sym y.1)
+      (subst (λ (x : List Cache). Turned state (Start p) old (Ok (length ps)) ws later x now) (sym same)
       (subst (λ (l : List ℕ). Turned state (Start p) old (Ok (length ps)) ws l cs now) (sym order)
       (turned state (Start p) old (length ps) ws (ps ++ p ∷ []) cs table now (serve-start ws ps table apart fits p (ps ++ p ∷ []) table h none refl refl) refl wide (apart-push ps p apart h none)
-      (keep-start ws ps ls laid p (fits.idle p none)) report))
+      (keep-start ws ps ls laid p (fits.idle p none)) report)))
 
   -- the line of an address that is held has the word that the task sees
   line_word : (p k a : ℕ) → place_in ps p ≡ Some k → is_held (table p a) ≡ true → (ls p (a % 16)).word ≡ seen_by (map (λ q. table q a) (take (suc k) ps)) (get_or ws a 0)
@@ -330,15 +349,6 @@ module _ (ws ps : List ℕ) (cs : List Cache) (wide : Wide cs) (apart : Apart ps
       (report ∙ sym (report-load ws ps table p k apart y.0 a ∙ cond-true (is_held (table p a)) quiet (bus_read a (supplied_by (last_that (λ q. is_own (table q a)) (take k ps)))) held))
 
   -- whom the search finds is a processor with a line that has the word
-  pub nearest-low : (k a q : ℕ) → last_that (λ r. is_own (table r a)) (take k ps) ≡ Some q → q < 4
-  nearest-low k a q e =
-      let x = last-passes (λ r. is_own (table r a)) (take k ps) q e in
-      go (place_in (take k ps) q) refl x.1
-    where
-      go : (o : Option ℕ) → place_in (take k ps) q ≡ o → is_some o ≡ true → q < 4
-      go None f s = absurd (true≢false (sym s))
-      go (Some j) f s = let t = take-place k ps q j f in omega (arith, apart_below ps j apart (placed ps q j t.0).within, place-value ps q j t.0)
-
   supplied-is : (k a : ℕ) (o : Option ℕ) → o ≡ last_that (λ r. is_own (table r a)) (take k ps) → supplied_word ls (a % 16) (get_or ws a 0) o ≡ seen_by (map (λ r. table r a) (take k ps)) (get_or ws a 0)
   supplied-is k a o e = go o (sym e) ∙ sym (seen_last (λ r. table r a) (take k ps) (get_or ws a 0) ∙ ap (last_seen (λ r. table r a) (get_or ws a 0)) (sym e))
     where
@@ -587,6 +597,30 @@ module _ (ws ps : List ℕ) (cs : List Cache) (wide : Wide cs) (apart : Apart ps
       let is = none (omega arith) in
       let x = store-uncut (length ps - n) (omega arith) in
       (subst (Laid ws (take (length ps - n) ps)) (sym is) x.0, ap table_by is ∙ x.1)) (cases_lt 0 n)
+
+-- the store after a turn
+pub took : {M : Type 0} (words : M → List ℕ) (sound : M → Type 0) (spare : M → List ℕ) (s : SnoopingStore M) (t : Turn) (r : Result ℕ Refusal) (later : SnoopingStore M)
+    → Turned (plain_in words s) t s.report r (words later.memory) (processors_of later.caches) later.caches.list later.report → sound later.memory → spare later.memory ≡ spare s.memory
+    → Took words sound spare s t r later
+took words sound spare s t r later x memory beside =
+    record { answer = x.answer; after = x.after; report = x.report; beside = beside; kept = record { memory = memory; fits = x.fits; lines = x.lines } }
+
+pub took-by-nobody : {M : Type 0} (words : M → List ℕ) (s : SnoopingStore M) (t : Turn) (r : Result ℕ Refusal) (e : Refusal) (p : ℕ) → s.caches.list ≡ lines_of (plain_in words s) → p ≡ processor_of t → Err e ≡ processor_answer p → r ≡ Err e
+    → (r ≡ answer_of (plain_in words s) t) × (plain_in words s ≡ state_after (plain_in words s) t) × Shown words s t s
+took-by-nobody words s t r e p lines p-is is same = go (leb 4 p) refl is
+  where
+    go : (u : Bool) → leb 4 p ≡ u → ◌≡◌ {A = Result ℕ Refusal} (Err e) (cond u (Err NoProcessor) (Ok p)) → (r ≡ answer_of (plain_in words s) t) × (plain_in words s ≡ state_after (plain_in words s) t) × Shown words s t s
+    go true f x =
+        let law = no-processor (plain_in words s) t (ap (leb 4) (sym p-is) ∙ f) in
+        let answer : r ≡ answer_of (plain_in words s) t = same ∙ (x ∙ law.0) in
+        (answer, law.1, record { lines = lines ∙ ap lines_of law.1; report = unreported s.report (plain_in words s) t e (sym same ∙ answer) })
+    go false f x = absurd (no_answer p e (sym x))
+
+pub took-refused : {M : Type 0} (words : M → List ℕ) (sound : M → Type 0) (spare : M → List ℕ) (s : SnoopingStore M) (t : Turn) (r : Result ℕ Refusal) (e : Refusal) (place : Result ℕ Refusal)
+    → SoundSnooping words sound s → Agrees place (refusal_of (plain_in words s) t) → Err e ≡ place → r ≡ Err e → Took words sound spare s t r s
+took-refused words sound spare s t r e place x agrees is same =
+    let law = refused-by (plain_in words s) t r e place agrees is same in
+    record { answer = law.0; after = law.1; report = unreported s.report (plain_in words s) t e (sym same ∙ law.0); beside = refl; kept = x }
 
 pub hit-parts : (t : Bool) (o : Option ℕ) → (t && not (is_some o)) ≡ true → (t ≡ true) × (o ≡ None)
 hit-parts true None e = (refl, refl)

@@ -1,59 +1,44 @@
 -- Going through the tasks in order: the nearest earlier version, and whom invalidations reach.
-use Rattle.std.proofs.Common.{◌≡◌, ℕ, ◌+◌, ◌-◌, ◌^◌, ◌<◌, ◌≤◌, Bool, true, false, cond, List, [], ◌∷◌, ◌++◌, length, get_or, take, drop, Some, None, Option, sym, refl, ap, ◌∙◌, arith}
-use Rattle.std.proofs.lemmas.List.{take_more, drop_more, drop_all}
-use Rattle.std.proofs.lemmas.Bool.{cond-true, cond-false}
+use Rattle.std.proofs.Common.{◌≡◌, ℕ, ◌+◌, ◌-◌, ◌*◌, ◌%◌, ◌^◌, ◌<◌, ◌≤◌, Bool, true, false, cond, List, [], ◌∷◌, ◌++◌, length, get_or, reverse, drop, Some, None, Option, sym, refl, ap, ◌∙◌, arith}
+use Rattle.std.specs.List.{find}
+use Rattle.std.proofs.lemmas.List.{drop_more, reverse-append, length-reverse, get_or-reverse}
+use Rattle.std.proofs.Math.Pow.{pow_mono}
 use Rattle.versions.specs.declared.version.Version.{Version}
 use Rattle.versions.specs.Versions.{is_own}
-use Rattle.snooping.specs.Caches.{last_that, or_else}
+use Rattle.versions.specs.Tables.{or_else}
+use Rattle.snooping.specs.Grid.{last_that}
 use Rattle.snooping.specs.Report.{reached, powers}
 
-pub last-push : (f : ℕ → Bool) (xs : List ℕ) (x : ℕ) → last_that f (xs ++ x ∷ []) ≡ cond (f x) (Some x) (last_that f xs)
-last-push f [] x = refl
-last-push f (y ∷ ys) x = ap (λ (o : Option ℕ). or_else o (cond (f y) (Some y) None)) (last-push f ys x) ∙ go (f x)
+find_push : (f : ℕ → Bool) (xs : List ℕ) (x : ℕ) → find f (xs ++ x ∷ []) ≡ or_else (find f xs) (cond (f x) (Some x) None)
+find_push f [] x = refl
+find_push f (y ∷ ys) x = go (f y) (find_push f ys x)
   where
-    go : (t : Bool) → or_else (cond t (Some x) (last_that f ys)) (cond (f y) (Some y) None) ≡ cond t (Some x) (or_else (last_that f ys) (cond (f y) (Some y) None))
-    go true = refl
-    go false = refl
+    go : (t : Bool) → find f (ys ++ x ∷ []) ≡ or_else (find f ys) (cond (f x) (Some x) None) → cond t (Some y) (find f (ys ++ x ∷ [])) ≡ or_else (cond t (Some y) (find f ys)) (cond (f x) (Some x) None)
+    go true e = refl
+    go false e = e
 
-module _ (f : ℕ → Bool) (ps : List ℕ) (k i p : ℕ) (h : 0 < i) (le : i ≤ length ps) (p-is : p ≡ get_or ps (i - 1) 0) (so_far : last_that f (take k ps) ≡ last_that f (take i ps)) where
-  nearer : last_that f (take k ps) ≡ cond (f p) (Some p) (last_that f (take (i - 1) ps))
-  nearer =
-      let on : i ≡ i - 1 + 1 = omega arith in
-      so_far
-      ∙ (ap (λ (j : ℕ). last_that f (take j ps)) on
-      ∙ (ap (last_that f) (take_more ps (i - 1) 0 (omega arith) ∙ ap (λ (r : ℕ). take (i - 1) ps ++ r ∷ []) (sym p-is)) ∙ last-push f (take (i - 1) ps) p))
+-- the first from the back is the last
+pub find-reverse : (f : ℕ → Bool) (xs : List ℕ) → find f (reverse xs) ≡ last_that f xs
+find-reverse f [] = refl
+find-reverse f (x ∷ xs) = ap (find f) (reverse-append (x ∷ []) xs) ∙ (find_push f (reverse xs) x ∙ ap (λ (o : Option ℕ). or_else o (cond (f x) (Some x) None)) (find-reverse f xs))
 
-  pub near-found : f p ≡ true → Some p ≡ last_that f (take k ps)
-  near-found e = sym (nearer ∙ cond-true (f p) (Some p) (last_that f (take (i - 1) ps)) e)
+-- one task more
+pub reach-on : (f : ℕ → Version) (xs : List ℕ) (i mask bit p : ℕ) → i < length xs → p ≡ get_or xs i p → powers (reached f xs) ≡ mask + powers (reached f (drop i xs)) → bit ≡ 2 ^ p → is_own (f p) ≡ false
+    → powers (reached f xs) ≡ mask + bit + powers (reached f (drop (i + 1) xs))
+reach-on f xs i mask bit p h p-is so_far bit_is none =
+    let e : powers (reached f xs) ≡ mask + (2 ^ p + powers (reached f (drop (i + 1) xs))) =
+    so_far
+    ∙ (ap (λ (l : List ℕ). mask + powers (reached f l)) (drop_more xs i p h ∙ ap (λ (r : ℕ). r ∷ drop (i + 1) xs) (sym p-is))
+    ∙ ap (λ (t : Bool). mask + powers (cond t (cond (f p).mark (p ∷ []) []) (p ∷ reached f (drop (i + 1) xs)))) none) in
+    omega (arith, e, bit_is)
 
-  pub near_on : f p ≡ false → last_that f (take k ps) ≡ last_that f (take (i - 1) ps)
-  near_on e = nearer ∙ cond-false (f p) (Some p) (last_that f (take (i - 1) ps)) e
+-- the bit of a processor
+pub bit : (p : ℕ) → p < 4 → (1 * 2 ^ p % 2 ^ 32 ≡ 2 ^ p) × (2 ^ p ≤ 8)
+bit p h = let low = pow_mono {i = p} {j = 3} (omega arith) in (omega (arith, low), omega (arith, low))
 
-module _ (f : ℕ → Version) (ps : List ℕ) (k i mask p : ℕ) (h : i < length ps) (p-is : p ≡ get_or ps i 0)
-    (so_far : powers (reached f (drop k ps)) ≡ mask + powers (reached f (drop i ps))) where
-  reached-here : powers (reached f (drop k ps)) ≡ mask + powers (cond (is_own (f p)) (cond (f p).mark (p ∷ []) []) (p ∷ reached f (drop (i + 1) ps)))
-  reached-here = so_far ∙ ap (λ (l : List ℕ). mask + powers (reached f l)) (drop_more ps i 0 h ∙ ap (λ (r : ℕ). r ∷ drop (i + 1) ps) (sym p-is))
-
-  owned : is_own (f p) ≡ true → powers (reached f (drop k ps)) ≡ mask + powers (cond (f p).mark (p ∷ []) [])
-  owned own = reached-here ∙ ap (λ (t : Bool). mask + powers (cond t (cond (f p).mark (p ∷ []) []) (p ∷ reached f (drop (i + 1) ps)))) own
-
-  pub reach-both : (bit : ℕ) → bit ≡ 2 ^ p → is_own (f p) ≡ true → (f p).mark ≡ true → mask + bit ≡ powers (reached f (drop k ps))
-  reach-both bit bit_is own mark =
-      let e : powers (reached f (drop k ps)) ≡ mask + (2 ^ p + 0) = owned own ∙ ap (λ (t : Bool). mask + powers (cond t (p ∷ []) [])) mark in
-      omega (arith, e, bit_is)
-
-  pub reach-stop : is_own (f p) ≡ true → (f p).mark ≡ false → mask ≡ powers (reached f (drop k ps))
-  reach-stop own mark =
-      let e : powers (reached f (drop k ps)) ≡ mask + 0 = owned own ∙ ap (λ (t : Bool). mask + powers (cond t (p ∷ []) [])) mark in
-      omega (arith, e)
-
-  pub reach-on : (bit : ℕ) → bit ≡ 2 ^ p → is_own (f p) ≡ false → powers (reached f (drop k ps)) ≡ mask + bit + powers (reached f (drop (i + 1) ps))
-  reach-on bit bit_is none =
-      let e : powers (reached f (drop k ps)) ≡ mask + (2 ^ p + powers (reached f (drop (i + 1) ps))) =
-      reached-here ∙ ap (λ (t : Bool). mask + powers (cond t (cond (f p).mark (p ∷ []) []) (p ∷ reached f (drop (i + 1) ps)))) none in
-      omega (arith, e, bit_is)
-
-pub reach-end : (f : ℕ → Version) (ps : List ℕ) (k i mask : ℕ) → length ps ≤ i → powers (reached f (drop k ps)) ≡ mask + powers (reached f (drop i ps)) → mask ≡ powers (reached f (drop k ps))
-reach-end f ps k i mask h so_far =
-    let e : powers (reached f (drop k ps)) ≡ mask + 0 = so_far ∙ ap (λ (l : List ℕ). mask + powers (reached f l)) (drop_all i ps h) in
-    omega (arith, e)
+-- the processor that is k-th from the back
+pub from_back : (ps : List ℕ) (k p : ℕ) → k < length (reverse ps) → p ≡ get_or (reverse ps) k p → p ≡ get_or ps (length ps - k - 1) p
+from_back ps k p h e =
+    let inside : k < length ps = omega (arith, length-reverse ps) in
+    let same : length ps - 1 - k ≡ length ps - k - 1 = omega arith in
+    e ∙ (get_or-reverse ps k p inside ∙ ap (λ (j : ℕ). get_or ps j p) same)

@@ -1,39 +1,8 @@
--- The four caches as a table of lines by processor and line number, and what happens to the table.
-use Rattle.std.specs.Prelude.{◌≡◌, ℕ, ◌%◌, ◌<◌, Bool, true, cond, ◌&&◌, List, [], ◌∷◌, length, get_or, is_some, Some, None, Option, ◌==◌, slice_index_or}
-use Rattle.versions.specs.Orders.{place_in, processors, Ordered}
+-- The caches' table of lines, the versions that it holds, and the processors with an active task.
+use Rattle.std.specs.Prelude.{ℕ, List}
 use Rattle.versions.specs.Tables.{Table}
-use Rattle.versions.specs.Versions.{is_held}
-use Rattle.snooping.specs.declared.cache.Cache.{Cache}
 use Rattle.snooping.specs.declared.caches.Caches.{Caches}
-use Rattle.snooping.specs.declared.line.Line.{Line}
-use Rattle.snooping.specs.Lines.{blank, version_in, version_at, with_next, unlinked}
-
--- line c of processor q
-abbrev pub LineTable : Type 0
-LineTable = ℕ → ℕ → Line
-
-abbrev pub no_cache : Cache
-no_cache = record { lines = [] }
-
-abbrev pub line_in : List Cache → LineTable
-line_in cs q c = slice_index_or (get_or cs q no_cache).lines c blank
-
--- four caches of 16 lines
-pub record Wide (cs : List Cache) : Type 0 where
-  pub caches : length cs ≡ 4
-  pub lines : (q : ℕ) → q < 4 → length (get_or cs q no_cache).lines ≡ 16
-
-pub record GoodCaches (c : Caches) : Type 0 where
-  pub order : Ordered c.order
-  pub wide : Wide c.list
-
--- the versions that the lines hold
-abbrev pub table_by : LineTable → Table
-table_by ls q b = version_at (ls q (b % 16)) b
-
--- the tag of a line that holds something belongs to the line
-abbrev pub Tagged : LineTable → Type 0
-Tagged ls = (q c : ℕ) → is_held (version_in (ls q c)) ≡ true → (ls q c).tag % 16 ≡ c
+use Rattle.snooping.specs.Grid.{LineTable, line_in, table_by}
 
 abbrev pub lines_in : Caches → LineTable
 lines_in x = line_in x.list
@@ -42,40 +11,4 @@ abbrev pub table_of : Caches → Table
 table_of x = table_by (lines_in x)
 
 abbrev pub processors_of : Caches → List ℕ
-processors_of x = processors x.order
-
--- the table with another line c of p; with all lines of p changed by f
-abbrev pub with_line : LineTable → ℕ → ℕ → Line → LineTable
-with_line ls p c x q d = cond (q == p && d == c) x (ls q d)
-
-abbrev pub with_cache : LineTable → ℕ → (Line → Line) → LineTable
-with_cache ls p f q d = cond (q == p) (f (ls q d)) (ls q d)
-
--- the first of some that passes a test, and the last
-abbrev pub first_that : {A : Type 0} → (A → Bool) → List A → Option A
-first_that f [] = None
-first_that f (x ∷ xs) = cond (f x) (Some x) (first_that f xs)
-
-abbrev pub or_else : {A : Type 0} → Option A → Option A → Option A
-or_else (Some x) other = Some x
-or_else None other = other
-
-abbrev pub last_that : {A : Type 0} → (A → Bool) → List A → Option A
-last_that f [] = None
-last_that f (x ∷ xs) = or_else (last_that f xs) (cond (f x) (Some x) None)
-
--- the first of some processors that holds a
-abbrev pub holder : Table → ℕ → List ℕ → Option ℕ
-holder table a qs = first_that (λ q. is_held (table q a)) qs
-
--- the lines of a of some processors point each to the next
-abbrev pub linked : LineTable → ℕ → ℕ → Option ℕ → LineTable
-linked ls p a n = cond (is_held (table_by ls p a)) (with_line ls p (a % 16) (with_next (ls p (a % 16)) n)) ls
-
-abbrev pub relinked : List ℕ → ℕ → LineTable → LineTable
-relinked [] a ls = ls
-relinked (p ∷ ps) a ls = linked (relinked ps a ls) p a (holder (table_by ls) a ps)
-
--- the lines of the processors ps alone, without pointers to others
-abbrev pub cut_to : List ℕ → LineTable → LineTable
-cut_to ps ls q d = cond (is_some (place_in ps q)) (unlinked ps (ls q d)) blank
+processors_of x = x.order

@@ -1,21 +1,16 @@
 -- The lines that a state of the plain store determines. What the four caches hold is this, after every turn.
-use Rattle.std.specs.Prelude.{ℕ, zero, suc, ◌%◌, Bool, cond, ◌&&◌, List, map, length, Some, None, Option, ◌==◌, slice_index}
-use Rattle.std.specs.List.{range_with_len}
+use Rattle.std.specs.Prelude.{ℕ, List, map, length, Some, None, Option, slice_index}
+use Rattle.std.specs.List.{range_with_len, find}
 use Rattle.std.specs.Option.{option_map}
 use Rattle.versions.specs.declared.version.Version.{Version}
 use Rattle.versions.specs.Cuts.{up_to, past}
 use Rattle.versions.specs.Plain.{Task, Plain, is_on, task_on, column}
+use Rattle.versions.specs.Tables.{of_class}
 use Rattle.versions.specs.Versions.{is_own, is_held, seen_by}
 use Rattle.snooping.specs.declared.cache.Cache.{Cache}
 use Rattle.snooping.specs.declared.line.Line.{Line}
-use Rattle.snooping.specs.Caches.{first_that}
 use Rattle.snooping.specs.Lines.{blank}
 use Rattle.snooping.specs.States.{with_bits}
-
--- the address below n of class c that passes a test, if there is one: the highest
-abbrev pub of_class : (ℕ → Bool) → ℕ → ℕ → Option ℕ
-of_class f c zero = None
-of_class f c (suc n) = cond (f n && n % 16 == c) (Some n) (of_class f c n)
 
 -- the address below n of class c that a task holds
 abbrev pub held_in : (ℕ → Version) → ℕ → ℕ → Option ℕ
@@ -23,7 +18,7 @@ held_in at c n = of_class (λ a. is_held (at a)) c n
 
 -- the processor of the first of these tasks that holds a
 abbrev pub next_holder : ℕ → List Task → Option ℕ
-next_holder a ts = option_map (λ t. t.on) (first_that (λ t. is_held (t.at a)) ts)
+next_holder a ts = option_map (λ t. t.on) (find (λ t. is_held (t.at a)) ts)
 
 -- p's line for an address that its task holds: L is the mark, S says that the word is own; the word is the own word, else
 -- that of the nearest earlier version, else the memory's; the pointer names the next task in order that holds the address

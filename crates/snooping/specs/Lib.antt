@@ -1,5 +1,6 @@
 pub mod States
 pub mod Lines
+pub mod Grid
 pub mod Caches
 pub mod Layout
 pub mod Report

@@ -1,19 +1,18 @@
 -- What the bus reports of a turn, from the state of the plain store before it.
-use Rattle.std.specs.Prelude.{ℕ, zero, suc, ◌+◌, ◌^◌, cond, not, ◌&&◌, List, [], ◌∷◌, map, length, Some, None, Option}
+use Rattle.std.specs.Prelude.{ℕ, ◌+◌, ◌^◌, cond, not, ◌&&◌, List, [], ◌∷◌, map, length, Some, None, Option}
 use Rattle.versions.specs.declared.refusal.Refusal.{Refusal}
 use Rattle.versions.specs.declared.turn.Turn.{Turn}
 use Rattle.versions.specs.declared.turn.Turn.TheVariants.{Start, Load, Store, Squash, Commit, Replace}
 use Rattle.versions.specs.declared.version.Version.{Version}
 use Rattle.versions.specs.Cuts.{any, before, past}
 use Rattle.versions.specs.Plain.{Task, Plain, is_on, task_on, refusal_of, given}
+use Rattle.versions.specs.Tables.{or_else, last_own}
 use Rattle.versions.specs.Versions.{is_own, is_held}
 use Rattle.snooping.specs.declared.report.BusKind.{BusKind}
 use Rattle.snooping.specs.declared.report.BusKind.TheVariants.{Quiet, BusRead, BusWrite, BusWback}
 use Rattle.snooping.specs.declared.report.BusReport.{BusReport}
 use Rattle.snooping.specs.declared.report.Supplier.{Supplier}
 use Rattle.snooping.specs.declared.report.Supplier.TheVariants.{Processor, Memory, Nobody}
-use Rattle.snooping.specs.Caches.{or_else}
-use Rattle.snooping.specs.Layout.{of_class}
 
 -- the numbers by which users know them
 abbrev pub kind_number : BusKind → ℕ
@@ -59,11 +58,6 @@ reached at (t ∷ ts) = cond (is_own (at t)) (cond (at t).mark (t ∷ []) []) (t
 abbrev pub powers : List ℕ → ℕ
 powers [] = 0
 powers (p ∷ ps) = 2 ^ p + powers ps
-
--- of the own words below n, the address of the one with the highest line number below c
-abbrev pub last_own : (ℕ → Version) → ℕ → ℕ → Option ℕ
-last_own at n zero = None
-last_own at n (suc c) = or_else (of_class (λ a. is_own (at a)) c n) (last_own at n c)
 
 abbrev pub written_last : Option ℕ → ℕ → BusReport
 written_last None n = quiet

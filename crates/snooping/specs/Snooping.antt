@@ -1,11 +1,15 @@
--- The snooping store over a memory: the plain state that it stands for, and its condition.
-use Rattle.std.specs.Prelude.{◌≡◌, ℕ, cond, ◌&&◌, List, length, Some, None, Option, nat_lt}
-use Rattle.versions.specs.Plain.{Plain}
+-- The snooping store over a memory: the plain state that it stands for, its condition, and what it shows of a turn.
+use Rattle.std.specs.Prelude.{◌≡◌, ℕ, cond, ◌&&◌, List, length, Some, None, Option, Result, nat_lt}
+use Rattle.versions.specs.declared.refusal.Refusal.{Refusal}
+use Rattle.versions.specs.declared.turn.Turn.{Turn}
+use Rattle.versions.specs.Plain.{Plain, answer_of, state_after}
 use Rattle.versions.specs.Tables.{plain_of, Fitting}
 use Rattle.snooping.specs.declared.line.Line.{Line}
 use Rattle.snooping.specs.declared.store.SnoopingStore.{SnoopingStore}
-use Rattle.snooping.specs.Caches.{GoodCaches, LineTable, processors_of, table_of}
+use Rattle.snooping.specs.Caches.{processors_of, table_of}
+use Rattle.snooping.specs.Grid.{LineTable}
 use Rattle.snooping.specs.Layout.{line_of, lines_of}
+use Rattle.snooping.specs.Report.{report_after}
 
 abbrev pub plain_in : {M : Type 0} → (M → List ℕ) → SnoopingStore M → Plain
 plain_in words s = plain_of (words s.memory) (processors_of s.caches) (table_of s.caches)
@@ -13,9 +17,21 @@ plain_in words s = plain_of (words s.memory) (processors_of s.caches) (table_of 
 -- the lines are those of the plain state
 pub record SoundSnooping {M : Type 0} (words : M → List ℕ) (sound : M → Type 0) (s : SnoopingStore M) : Type 0 where
   pub memory : sound s.memory
-  pub caches : GoodCaches s.caches
   pub fits : Fitting (length (words s.memory)) (processors_of s.caches) (table_of s.caches)
   pub lines : s.caches.list ≡ lines_of (plain_in words s)
+
+-- what a turn shows beside its answer: every line, and the bus report
+pub record Shown {M : Type 0} (words : M → List ℕ) (s : SnoopingStore M) (t : Turn) (later : SnoopingStore M) : Type 0 where
+  pub lines : later.caches.list ≡ lines_of (state_after (plain_in words s) t)
+  pub report : later.report ≡ report_after s.report (plain_in words s) t
+
+-- a turn taken: the plain store's answer and state after it, the report, and what is kept
+pub record Took {M : Type 0} (words : M → List ℕ) (sound : M → Type 0) (spare : M → List ℕ) (s : SnoopingStore M) (t : Turn) (r : Result ℕ Refusal) (later : SnoopingStore M) : Type 0 where
+  pub answer : r ≡ answer_of (plain_in words s) t
+  pub after : plain_in words later ≡ state_after (plain_in words s) t
+  pub report : later.report ≡ report_after s.report (plain_in words s) t
+  pub beside : spare later.memory ≡ spare s.memory
+  pub kept : SoundSnooping words sound later
 
 -- line c of processor p, for a user who may ask for any
 abbrev pub line_answer : Plain → ℕ → ℕ → Option Line

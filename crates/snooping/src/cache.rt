@@ -1,11 +1,10 @@
 // One processor's cache: 16 lines. Address a has line a mod 16.
-ghost use Rattle.std.specs.Prelude.{◌≡◌, ℕ, ◌%◌, ◌<◌, map, length, replicate, slice_index_or, slice_set};
-ghost use Rattle.versions.specs.Orders.{processors, Ordered};
-ghost use Rattle.snooping.specs.Lines.{blank, with_loaded, with_stored, with_next, ended, unlinked};
+ghost use Rattle.std.specs.Prelude.{◌≡◌, ◌%◌, map, replicate, slice_index_or, slice_set};
+ghost use Rattle.snooping.specs.Lines.{blank, version_at, with_loaded, with_stored, with_next, ended, unlinked};
 
 use crate::line::Line;
 use crate::state::LineEvent;
-use versions::Order;
+use versions::{Class, Order, Version};
 
 #[derive(Clone, Copy)]
 pub struct Cache {
@@ -23,11 +22,17 @@ impl Cache {
     }
 
     // Line c.
-    pub fn line(&self, c: usize) -> Line
-        requires { c < 16 }
+    pub fn line(&self, c: Class) -> Line
         ensures { result ≡ slice_index_or self.now.lines c blank }
     {
-        self.lines[c]
+        self.lines[c.index()]
+    }
+
+    // What the cache has of a.
+    pub fn version(&self, a: u32) -> Version
+        ensures { result ≡ version_at (slice_index_or self.now.lines (a % 16) blank) a }
+    {
+        self.line(Class::of(a)).version(a)
     }
 
     // Takes the word w of a load of a.
@@ -46,21 +51,19 @@ impl Cache {
         line.store(a, w);
     }
 
-    // Points line c to another processor's line, or to none.
-    pub fn link(&mut self, c: usize, next: Option<u32>)
-        requires { c < 16 }
-        ensures { self.new.lines ≡ slice_set self.old.lines c (with_next (slice_index_or self.old.lines c blank) next) }
+    // Points the line of a to another processor's line, or to none.
+    pub fn link(&mut self, a: u32, next: Option<u32>)
+        ensures { self.new.lines ≡ slice_set self.old.lines (a % 16) (with_next (slice_index_or self.old.lines (a % 16) blank) next) }
     {
-        let line = &mut self.lines[c];
+        let line = &mut self.lines[a as usize % 16];
         line.link(next);
     }
 
-    // Ends what line c holds.
-    pub fn end(&mut self, c: usize, event: LineEvent)
-        requires { c < 16 }
-        ensures { self.new.lines ≡ slice_set self.old.lines c (ended event (slice_index_or self.old.lines c blank)) }
+    // Ends what the line of a holds.
+    pub fn end(&mut self, a: u32, event: LineEvent)
+        ensures { self.new.lines ≡ slice_set self.old.lines (a % 16) (ended event (slice_index_or self.old.lines (a % 16) blank)) }
     {
-        let line = &mut self.lines[c];
+        let line = &mut self.lines[a as usize % 16];
         line.end(event);
     }
 
@@ -68,35 +71,17 @@ impl Cache {
     pub fn end_all(&mut self, event: LineEvent)
         ensures { self.new.lines ≡ map (ended event) self.old.lines }
     {
-        end_lines(&mut self.lines, event);
+        for line in self.lines.iter_mut() {
+            line.end(event);
+        }
     }
 
     // Ends pointers to processors without a task.
     pub fn unlink(&mut self, order: &Order)
-        requires { Ordered order.now }
-        ensures { self.new.lines ≡ map (unlinked (processors order.now)) self.old.lines }
+        ensures { self.new.lines ≡ map (unlinked order.now) self.old.lines }
     {
-        unlink_lines(&mut self.lines, order);
-    }
-}
-
-// Ends what each line of a row holds.
-fn end_lines(lines: &mut [Line], event: LineEvent)
-    ensures { lines.new ≡ map (ended event) lines.old }
-{
-    for c in 0..lines.len() {
-        let line = &mut lines[c];
-        line.end(event);
-    }
-}
-
-// Ends each pointer of a row that names a processor without a task.
-fn unlink_lines(lines: &mut [Line], order: &Order)
-    requires { Ordered order.now }
-    ensures { lines.new ≡ map (unlinked (processors order.now)) lines.old }
-{
-    for c in 0..lines.len() {
-        let line = &mut lines[c];
-        line.unlink(order);
+        for line in self.lines.iter_mut() {
+            line.unlink(order);
+        }
     }
 }

@@ -1,7 +1,6 @@
 // One line of a processor's cache.
 ghost use Rattle.std.specs.Prelude.{◌≡◌, ℕ, not, ◌&&◌, is_some};
 ghost use Rattle.versions.specs.Versions.{is_own};
-ghost use Rattle.versions.specs.Orders.{processors, Ordered};
 ghost use Rattle.snooping.specs.Lines.{blank, version_at, with_loaded, with_stored, with_next, ended, unlinked};
 
 use crate::state::{LineEvent, LineState};
@@ -39,11 +38,7 @@ impl Line {
         }
         Version {
             mark: self.state.has_l(),
-            own: if self.state.has_s() {
-                Some(self.word)
-            } else {
-                None
-            },
+            own: self.state.has_s().then_some(self.word),
         }
     }
 
@@ -91,14 +86,8 @@ impl Line {
 
     // Ends a pointer to a processor that has no task.
     pub(crate) fn unlink(&mut self, order: &Order)
-        requires { Ordered order.now }
-        ensures { self.new ≡ unlinked (processors order.now) self.old }
+        ensures { self.new ≡ unlinked order.now self.old }
     {
-        let next = self.next;
-        if let Some(p) = next {
-            if order.place(p).is_none() {
-                self.next = None;
-            }
-        }
+        self.next = self.next.filter(|p| order.place(*p).is_some());
     }
 }

@@ -1,6 +1,8 @@
 // What the bus tells of the latest accepted turn.
-ghost use Rattle.std.specs.Prelude.{◌≡◌, ℕ, ◌^◌, ◌<◌, ◌≤◌, is_some, if◌then◌else◌};
-ghost use Rattle.snooping.specs.Report.{kind_number, supplier_number, quiet, bus_read, bus_write, written_back, supplied_by, written_last};
+ghost use Rattle.std.specs.Prelude.{◌≡◌};
+ghost use Rattle.snooping.specs.Report.{kind_number, supplier_number, quiet, bus_read, bus_write, written_last};
+
+use versions::WrittenBack;
 
 #[derive(Clone, Copy, PartialEq, Debug)]
 pub enum BusKind {
@@ -47,16 +49,6 @@ impl Supplier {
     }
 }
 
-// The supplier of a bus read: the processor that has the nearest earlier version, else the memory.
-pub(crate) fn supplier_of(nearest: Option<u32>) -> Supplier
-    ensures { result ≡ supplied_by nearest }
-{
-    match nearest {
-        Some(p) => Supplier::Processor { p },
-        None => Supplier::Memory,
-    }
-}
-
 // A report is made by one of four functions only.
 #[derive(Clone, Copy, PartialEq, Debug)]
 pub struct BusReport {
@@ -91,8 +83,7 @@ impl BusReport {
             kind: BusKind::BusRead,
             address: a,
             supplier,
-            invalidated: 0,
-            written: 0,
+            ..BusReport::quiet()
         }
     }
 
@@ -103,56 +94,23 @@ impl BusReport {
         BusReport {
             kind: BusKind::BusWrite,
             address: a,
-            supplier: Supplier::Nobody,
             invalidated,
-            written: 0,
+            ..BusReport::quiet()
         }
     }
 
-    // Words written back, the last one at address a.
-    pub(crate) fn written_back(a: u32, written: u32) -> BusReport
-        ensures { result ≡ written_back a written }
+    // Words written back, if there were any.
+    pub(crate) fn written_back(wrote: WrittenBack) -> BusReport
+        ensures { result ≡ written_last wrote.last wrote.words }
     {
-        BusReport {
-            kind: BusKind::BusWback,
-            address: a,
-            supplier: Supplier::Nobody,
-            invalidated: 0,
-            written,
+        match wrote.last {
+            Some(a) => BusReport {
+                kind: BusKind::BusWback,
+                address: a,
+                written: wrote.words,
+                ..BusReport::quiet()
+            },
+            None => BusReport::quiet(),
         }
-    }
-}
-
-// The report of a commit that wrote so many words, the last one at an address.
-pub(crate) fn committed(last: Option<u32>, written: u32) -> BusReport
-    ensures { result ≡ written_last last written }
-{
-    match last {
-        Some(a) => BusReport::written_back(a, written),
-        None => BusReport::quiet(),
-    }
-}
-
-// The report of a replacement of a, which wrote the own word if there was one.
-pub(crate) fn given_back(a: u32, own: Option<u32>) -> BusReport
-    ensures { result ≡ (if is_some own then written_back a 1 else quiet) }
-{
-    match own {
-        Some(_) => BusReport::written_back(a, 1),
-        None => BusReport::quiet(),
-    }
-}
-
-// 2 to the power p.
-pub(crate) fn power(p: u32) -> u32
-    requires { p < 4 }
-    ensures value { result ≡ 2 ^ p }
-    ensures bound { result ≤ 8 }
-{
-    match p {
-        0 => 1,
-        1 => 2,
-        2 => 4,
-        _ => 8,
     }
 }

@@ -30,24 +30,14 @@ impl LineState {
     pub fn has_l(self) -> bool
         ensures { result ≡ has_l self }
     {
-        match self {
-            LineState::Invalid => false,
-            LineState::Loaded => true,
-            LineState::Stored => false,
-            LineState::Both => true,
-        }
+        matches!(self, LineState::Loaded | LineState::Both)
     }
 
     // The bit S.
     pub fn has_s(self) -> bool
         ensures { result ≡ has_s self }
     {
-        match self {
-            LineState::Invalid => false,
-            LineState::Loaded => false,
-            LineState::Stored => true,
-            LineState::Both => true,
-        }
+        matches!(self, LineState::Stored | LineState::Both)
     }
 
     // Goes on to the next state.

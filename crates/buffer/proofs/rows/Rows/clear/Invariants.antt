@@ -1,9 +1,7 @@
-use Rattle.std.proofs.Common.{◌≡◌, ◌++◌, map, length, take, drop}
-use Rattle.buffer.specs.Rows.{without_row}
+use Rattle.std.proofs.Common.{◌≡◌, ◌++◌, map, take, drop}
+use Rattle.buffer.specs.Sets.{without_row}
 use Rattle.buffer.proofs.rows.Rows.clear.Given as goal
 
--- the sets before c are cleared
-abbrev pub invariant-loop-c : goal.invariant-loop-c
-invariant-loop-c l =
-    (l.self.sets ≡ map (map (without_row l.p)) (take l.c l.initial.self.sets) ++ drop l.c l.initial.self.sets)
-    × (length l.initial.self.sets ≡ 16)
+-- the sets before this one are cleared
+abbrev pub invariant-loop-set : goal.invariant-loop-set
+invariant-loop-set l = l.set-items ≡ map (map (without_row l.p)) (take l.set-index l.initial.set-items) ++ drop l.set-index l.initial.set-items

@@ -1,14 +1,26 @@
-use Rattle.std.proofs.Common.{◌%◌, List, set, ap, arith}
+use Rattle.std.proofs.Common.{[], List, get_or, set, ap, subst, ◌∙◌}
 use Rattle.buffer.specs.declared.rows.Row.{Row}
-use Rattle.buffer.proofs.Buffering.{set-good, rows-mine, put-table}
+use Rattle.buffer.specs.Sets.{GoodSet}
+use Rattle.buffer.proofs.Buffering.{rows-mine, put-table}
 use Rattle.buffer.proofs.rows.Rows.put.Goals as goal
 
 pub row_for-j-requires : goal.row_for-j-requires
 row_for-j-requires c =
-    (record { good_set = set-good c.args.self.now (c.args.a % 16) c.requires.good_rows (omega arith); p_bound = c.requires.p_bound; by_index = rows-mine c.args.self.now c.args.p c.args.a c.requires.good_rows c.requires.by_index })
+    let sets = c.args.self.now.sets in
+    let class = c.index.ensures.value ∙ c.of.ensures in
+    (record {
+      good_set = subst (λ k. GoodSet k (get_or sets c.index.result [])) class (c.args.self.now.good.each c.index.result c.index.ensures.bound);
+      mine = rows-mine sets c.index.result c.args.p c.args.a class c.args.self.now.good c.requires;
+    })
+
+pub invariant_of-self : goal.invariant_of-self
+invariant_of-self c =
+    record {
+      good = (put-table c.args.self.now.sets _ c.index.result c.row_for-j.result c.args.p c.args.a c.args.v (c.index.ensures.value ∙ c.of.ensures) c.args.self.now.good c.put_row.ensures.bound c.row_for-j.ensures
+          (ap (λ (rs : List Row). set c.args.self.now.sets c.index.result rs) c.put_row.ensures.rows)).1;
+    }
 
 pub returns : goal.returns
 returns c =
-    let law = put-table c.args.self.now _ c.row_for-j.result c.args.p c.args.a c.args.v c.requires.good_rows c.requires.p_bound c.row_for-j.ensures
-    (ap (λ (rs : List Row). set c.args.self.now.sets (c.args.a % 16) rs) c.put_row.ensures) in
-    record { table = law.0; kept = law.1 }
+    (put-table c.args.self.now.sets _ c.index.result c.row_for-j.result c.args.p c.args.a c.args.v (c.index.ensures.value ∙ c.of.ensures) c.args.self.now.good c.put_row.ensures.bound c.row_for-j.ensures
+    (ap (λ (rs : List Row). set c.args.self.now.sets c.index.result rs) c.put_row.ensures.rows)).0

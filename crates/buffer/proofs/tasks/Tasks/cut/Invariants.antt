@@ -1,12 +1,8 @@
-use Rattle.std.proofs.Common.{◌≡◌, take, drop}
-use Rattle.buffer.specs.Rows.{GoodRows}
+use Rattle.std.proofs.Common.{◌≡◌, take}
 use Rattle.versions.specs.Tables.{without_all}
-use Rattle.buffer.specs.Tasks.{processors_of, table_of}
+use Rattle.buffer.specs.Rows.{table_in}
 use Rattle.buffer.proofs.tasks.Tasks.cut.Given as goal
 
--- the tasks from k to i are cleared
-abbrev pub invariant-loop-i : goal.invariant-loop-i
-invariant-loop-i l =
-    (l.self.order ≡ l.initial.self.order)
-    × GoodRows l.self.rows
-    × (table_of l.self ≡ without_all (table_of l.initial.self) (drop l.k (take l.i (processors_of l.initial.self))))
+-- the tasks before p are cleared: 1.1.0 are the rows
+abbrev pub invariant-loop-p : goal.invariant-loop-p
+invariant-loop-p l = table_in l.self.1.1.0 ≡ without_all (table_in l.initial.self.1.1.0) (take l.p-index l.p-items)

@@ -1,19 +1,23 @@
-use Rattle.std.proofs.Common.{◌≡◌, ℕ, ◌<◌, length, get_or, sym, ap, ◌∙◌, arith}
+use Rattle.std.proofs.Common.{◌≡◌, ℕ, ◌+◌, ◌-◌, ◌<◌, length, take, rules, arith}
+use Rattle.std.proofs.lemmas.Grind.{common_steps}
+use Rattle.std.proofs.lemmas.Option.{MatchOption-at_some}
 use Rattle.versions.specs.declared.version.Version.{Version}
-use Rattle.buffer.specs.Tasks.{processors_of, table_of}
-use Rattle.versions.proofs.Stepping.{nearest-own, nearest-earlier}
+use Rattle.buffer.specs.Tasks.{table_of}
+use Rattle.buffer.proofs.Going.{nearest_from}
 use Rattle.buffer.proofs.tasks.Tasks.nearest.Goals as goal
-use Rattle.buffer.proofs.tasks.Tasks.nearest.Goals.{then-is_some, else-is_some}
 
-pub loop-i-preserved : goal.loop-i-preserved
-loop-i-preserved c =
-    let t = c.args.self.now in
-    let ps = processors_of t in
-    let f : ℕ → Version = λ q. table_of t q c.args.a in
-    let inside : c.loop-i.i < length ps = omega (arith, c.requires.k_in_bounds) in
-    let own : c.version-own.result.own ≡ (f (get_or ps c.loop-i.i 0)).own =
-    ap (λ (v : Version). v.own) (c.version-own.ensures ∙ ap f c.at.ensures.value) in
-    elim c.if-is_some.branch [
-      | then-is_some way ↦ nearest-own f ps c.loop-i.i inside c.loop-i.found c.version-own.result.own c.if-is_some.found c.loop-i.invariant own (sym c.is_some.ensures ∙ way.if-is_some.true) way.found-is
-      | else-is_some way ↦ nearest-earlier f ps c.loop-i.i inside c.loop-i.found c.version-own.result.own c.if-is_some.found c.loop-i.invariant own (sym c.is_some.ensures ∙ way.if-is_some.false) way.found-is
-    ]
+pub returns : goal.returns
+returns c =
+    let ps = take (c.args.k + 1) c.args.self.now.order in
+    let f : ℕ → Version = λ q. table_of c.args.self.now q c.args.a in
+    nearest_from f ps c.find_map.result (λ e i l. grind (arith, common_steps)) (λ w e.
+    let x = MatchOption-at_some _ _ w e c.find_map.ensures.runs.2 in
+    let within : x.0 < length ps = grind (arith, common_steps) in (
+      length ps - 1 - x.0,
+      omega (arith, within),
+      grind (arith, common_steps),
+      λ j m n.
+          let before : length ps - 1 - j < x.0 = omega (arith, within, m, n) in
+          let none = (x.3 (λ b r g k. search rules)).1 (length ps - 1 - j) before in
+          grind (arith, common_steps),
+    ))

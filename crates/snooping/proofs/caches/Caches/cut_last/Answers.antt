@@ -11,5 +11,4 @@ returns-else-n-gt0 c =
       order = sym (take_all (length ps - c.args.n) ps (omega arith));
       none = λ e. refl;
       some = λ h. absurd (omega (arith, h, low));
-      kept = c.requires.good_caches;
     }

@@ -1,17 +1,16 @@
-use Rattle.std.proofs.Common.{sym, ap, ◌∙◌, arith}
+use Rattle.std.proofs.Common.{ℕ, take, sym, ◌∙◌, rules, tests}
+use Rattle.std.proofs.lemmas.Iterator.Adapters.{YieldsList-from_rev_slice, option_map_id}
+use Rattle.std.proofs.lemmas.Iterator.Consumers.{YieldsList-from_copied}
+use Rattle.std.proofs.lemmas.Iterator.Search.{find_from_yields_List}
 use Rattle.versions.specs.Versions.{is_own}
 use Rattle.snooping.specs.Caches.{processors_of, table_of}
-use Rattle.snooping.proofs.Watching.{near-found, near_on}
+use Rattle.snooping.proofs.Watching.{find-reverse}
 use Rattle.snooping.proofs.caches.Caches.nearest.Goals as goal
 
-pub returns-then-is_some : goal.returns-then-is_some
-returns-then-is_some c =
+pub returns : goal.returns
+returns c =
     let s = c.args.self.now in
-    near-found (λ q. is_own (table_of s q c.args.a)) (processors_of s) c.args.k c.loop-i.i c.at-p.result (omega arith) (omega (arith, c.requires.k_in_bounds)) c.at-p.ensures.value c.loop-i.invariant
-    (ap is_own (sym c.version.ensures) ∙ (sym c.is_some.ensures ∙ c.if-is_some.true))
-
-pub loop-i-preserved : goal.loop-i-preserved
-loop-i-preserved c =
-    let s = c.args.self.now in
-    near_on (λ q. is_own (table_of s q c.args.a)) (processors_of s) c.args.k c.loop-i.i c.at-p.result (omega arith) (omega (arith, c.requires.k_in_bounds)) c.at-p.ensures.value c.loop-i.invariant
-    (ap is_own (sym c.version.ensures) ∙ (sym c.is_some.ensures ∙ c.if-is_some.false))
+    let front = take c.args.k (processors_of s) in
+    sym (option_map_id c.find.result)
+    ∙ (find_from_yields_List (λ q. is_own (table_of s q c.args.a)) _ _ c.find.result c.find.ensures.ran (YieldsList-from_copied (YieldsList-from_rev_slice front cc)) (λ x b q k. search (rules, tests))
+    ∙ find-reverse (λ q. is_own (table_of s q c.args.a)) front)

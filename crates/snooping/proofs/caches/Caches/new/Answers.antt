@@ -1,9 +1,5 @@
-use Rattle.snooping.proofs.Grids.{new-lines, new-wide}
+use Rattle.snooping.proofs.Grids.{new-lines}
 use Rattle.snooping.proofs.caches.Caches.new.Goals as goal
 
-pub returns : goal.returns
-returns c = record {
-  order = c.new-2.ensures.order;
-  lines = new-lines c.new.result c.new.ensures;
-  kept = record { order = c.new-2.ensures.kept; wide = new-wide c.new.result c.new.ensures };
-}
+pub returns-clause-lines : goal.returns-clause-lines
+returns-clause-lines c = new-lines c.new.result c.new.ensures

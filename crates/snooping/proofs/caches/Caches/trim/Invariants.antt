@@ -1,11 +1,8 @@
 use Rattle.std.proofs.Common.{◌≡◌}
-use Rattle.snooping.specs.Caches.{GoodCaches, lines_in, processors_of}
+use Rattle.snooping.specs.Grid.{line_in, Wide}
 use Rattle.snooping.proofs.Grids.{cut_below}
 use Rattle.snooping.proofs.caches.Caches.trim.Given as goal
 
 -- the caches before p are cut
 abbrev pub invariant-loop-p : goal.invariant-loop-p
-invariant-loop-p l =
-    (l.self.order ≡ l.initial.self.order)
-    × GoodCaches l.self
-    × (lines_in l.self ≡ cut_below l.p (processors_of l.initial.self) (lines_in l.initial.self))
+invariant-loop-p l = record { wide : Wide l.cache-items; lines : line_in l.cache-items ≡ cut_below l.p l.fn.self.order (line_in l.fn.self.list) }

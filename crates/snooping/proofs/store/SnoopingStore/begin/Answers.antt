@@ -1,45 +1,27 @@
-use Rattle.std.proofs.Common.{is_some, Ok, Err, sym, refl, ap, ◌∙◌, arith}
-use Rattle.versions.specs.Orders.{place_in}
-use Rattle.snooping.specs.Caches.{table_of, processors_of}
-use Rattle.snooping.specs.Snooping.{plain_in}
-use Rattle.versions.specs.declared.refusal.Refusal.TheVariants.{NoProcessor, TaskActive}
+use Rattle.std.proofs.Common.{ℕ, ◌<◌, Ok, Err, refl, ap, ◌∙◌, subst}
+use Rattle.std.proofs.lemmas.Result.{err_from_is_err_and}
 use Rattle.versions.specs.declared.turn.Turn.TheVariants.{Start}
-use Rattle.versions.proofs.Judging.{refused-turn}
-use Rattle.versions.proofs.Serving.{start-low, start-busy, none_from}
-use Rattle.snooping.proofs.Snooped.{turn-refused, turn-start}
+use Rattle.versions.specs.Tables.{start_place}
+use Rattle.snooping.specs.Caches.{processors_of, table_of}
+use Rattle.snooping.proofs.Snooped.{took, took-refused, turn-start, ok-start, start-judged}
 use Rattle.snooping.proofs.store.SnoopingStore.begin.Goals as goal
 
-pub returns-then-p-ge4 : goal.returns-then-p-ge4
-returns-then-p-ge4 g c =
+pub returns-in_err-active : goal.returns-in_err-active
+returns-in_err-active g c =
+    let m = g.M.Memory in
     let s = c.args.self.now in
-    let ws = g.M.Memory.words s.memory in
-    let law = refused-turn (plain_in g.M.Memory.words s) (Start c.args.p) NoProcessor
-    (start-low ws (processors_of s.caches) (table_of s.caches) c.requires.caches.order.apart c.requires.fits c.args.p (omega arith)) in
-    let turn = turn-refused ws (processors_of s.caches) s.caches.list c.requires.caches.wide c.requires.caches.order.apart c.requires.fits c.requires.lines s.report (Start c.args.p) (Err NoProcessor) NoProcessor refl law.0 law.1 in
-    record { answer = turn.answer; after = turn.after; report = turn.report; beside = refl; kept = c.requires }
+    let q = err_from_is_err_and c.from_residual.result c.from_residual.ensures.1 in
+    took-refused m.words m.sound m.spare s (Start c.args.p) c.from_residual.result c.in_err-active.field-0.0 (start_place (processors_of s.caches) c.args.p) c.requires (start-judged (m.words s.memory) (processors_of s.caches) (table_of s.caches) c.args.p (subst (λ (n : ℕ). n < 4) c.number.ensures.value c.number.ensures.bound))
+    c.in_err-active.ensures.value (q.1 ∙ ap Err q.2)
 
-pub returns-then-is_some : goal.returns-then-is_some
-returns-then-is_some g c =
-    let s = c.args.self.now in
-    let ws = g.M.Memory.words s.memory in
-    let law = refused-turn (plain_in g.M.Memory.words s) (Start c.args.p) TaskActive
-    (start-busy ws (processors_of s.caches) (table_of s.caches) c.requires.caches.order.apart c.requires.fits c.args.p (omega arith)
-    (ap is_some (sym c.place.ensures) ∙ (sym c.is_some.ensures ∙ c.if-is_some.true))) in
-    let turn = turn-refused ws (processors_of s.caches) s.caches.list c.requires.caches.wide c.requires.caches.order.apart c.requires.fits c.requires.lines s.report (Start c.args.p) (Err TaskActive) TaskActive refl law.0 law.1 in
-    record { answer = turn.answer; after = turn.after; report = turn.report; beside = refl; kept = c.requires }
+pub append-requires : goal.append-requires
+append-requires g c = (ok-start (processors_of c.args.self.now.caches) c.args.p c.in_ok-active.active c.in_ok-active.ensures.value).0
 
 pub returns : goal.returns
 returns g c =
+    let m = g.M.Memory in
     let s = c.args.self.now in
-    let ws = g.M.Memory.words s.memory in
-    let ps = processors_of s.caches in
-    let none = none_from (place_in ps c.args.p) (ap is_some (sym c.place.ensures) ∙ (sym c.is_some.ensures ∙ c.if-is_some.false)) in
-    let turn = turn-start ws ps s.caches.list c.requires.caches.wide c.requires.caches.order.apart c.requires.fits c.requires.lines s.report c.args.p
-    (processors_of c.append.new.self) c.append.new.self.list c.quiet-self.result (omega arith) none c.append.ensures.order c.append.ensures.list c.quiet-self.ensures in
-    record {
-      answer = ap Ok c.len-active.ensures.value ∙ turn.answer;
-      after = turn.after;
-      report = turn.report;
-      beside = refl;
-      kept = record { memory = c.requires.memory; caches = c.append.ensures.kept; fits = turn.fits; lines = turn.lines };
-    }
+    took m.words m.sound m.spare s (Start c.args.p) (Ok c.in_ok-active.active) _
+    (turn-start (m.words s.memory) (processors_of s.caches) s.caches.list s.caches.wide c.in_ok-active.ensures.apart c.requires.fits c.requires.lines s.report c.args.p c.in_ok-active.active
+    (processors_of c.append.new.self) c.append.new.self.list c.quiet-self.result (subst (λ (n : ℕ). n < 4) c.number.ensures.value c.number.ensures.bound)
+    c.in_ok-active.ensures.value c.append.ensures.order c.append.ensures.list c.quiet-self.ensures) c.requires.memory refl

@@ -1,19 +1,13 @@
-use Rattle.std.proofs.Common.{◌&&◌, ltb, Some, None, sym, ap, ◌∙◌, arith}
-use Rattle.snooping.specs.Caches.{lines_in, processors_of}
+use Rattle.std.proofs.Common.{List, ap, ◌∙◌}
+use Rattle.std.specs.Result.{result_ok}
+use Rattle.snooping.specs.declared.cache.Cache.{Cache}
+use Rattle.snooping.specs.Grid.{line_in}
 use Rattle.snooping.specs.Snooping.{plain_in}
-use Rattle.std.proofs.lemmas.Bool.{cond-true, and_from, lt-ltb}
-use Rattle.snooping.specs.Layout.{line_of}
-use Rattle.snooping.proofs.Laying.{laid-line}
-use Rattle.snooping.proofs.Snooped.{laid}
+use Rattle.snooping.proofs.Laying.{line-at, line-asked}
 use Rattle.snooping.proofs.store.SnoopingStore.line.Goals as goal
 
 pub returns : goal.returns
 returns g c =
-    let s = c.args.self.now in
-    let ws = g.M.Memory.words s.memory in
-    let ps = processors_of s.caches in
-    let plain = plain_in g.M.Memory.words s in
-    ap Some (c.line.ensures ∙ laid-line ws ps (lines_in s.caches) (laid ws ps s.caches.list c.requires.caches.wide c.requires.caches.order.apart c.requires.fits c.requires.lines s.report)
-    c.requires.caches.order.apart c.requires.fits c.args.p c.args.c)
-    ∙ sym (cond-true (ltb c.args.p 4 && ltb c.args.c 16) (Some (line_of plain c.args.p c.args.c)) None
-    (and_from (ltb c.args.p 4) (ltb c.args.c 16) (lt-ltb c.args.p 4 (omega arith)) (lt-ltb c.args.c 16 (omega arith))))
+    let plain = plain_in g.M.Memory.words c.args.self.now in
+    line-asked plain c.args.p c.args.c c.in_ok-p.p c.in_ok-c.c c.line.result (c.in_ok-p.ensures.value ∙ ap result_ok c.try_from.ensures) c.in_ok-c.ensures
+    (λ h l. c.line.ensures ∙ (ap (λ (cs : List Cache). line_in cs c.in_ok-p.p c.in_ok-c.c) c.requires.lines ∙ line-at plain c.in_ok-p.p c.in_ok-c.c h l))

@@ -1,0 +1,37 @@
+-- Going through the tasks in order: the nearest own word, and tasks that are cut off one after another.
+use Rattle.std.proofs.Common.{◌≡◌, ℕ, zero, suc, ◌+◌, ◌<◌, List, [], ◌∷◌, map, length, get_or, take, Some, None, Option, sym, refl, ap, ◌∙◌, arith}
+use Rattle.std.proofs.lemmas.List.{take_more}
+use Rattle.versions.specs.declared.version.Version.{Version}
+use Rattle.versions.specs.Versions.{or_earlier, nearest_own}
+use Rattle.versions.specs.Tables.{Table, without, without_all}
+use Rattle.versions.proofs.Fits.{without_all-push}
+
+-- the own word found is the last one
+pub nearest_from : (f : ℕ → Version) (ps : List ℕ) (r : Option ℕ)
+    → (r ≡ None → (i : ℕ) → i < length ps → (f (get_or ps i 0)).own ≡ None)
+    → ((w : ℕ) → r ≡ Some w → (i : ℕ) × (i < length ps) × ((f (get_or ps i 0)).own ≡ Some w) × ((j : ℕ) → i < j → j < length ps → (f (get_or ps j 0)).own ≡ None))
+    → r ≡ nearest_own (map f ps)
+nearest_from f ps None none some = go ps (none refl)
+  where
+    go : (ps : List ℕ) → ((i : ℕ) → i < length ps → (f (get_or ps i 0)).own ≡ None) → None ≡ nearest_own (map f ps)
+    go [] h = refl
+    go (p ∷ ps) h = sym (h 0 (omega arith)) ∙ ap (λ (o : Option ℕ). or_earlier o (f p).own) (go ps (λ i l. h (suc i) (omega arith)))
+nearest_from f ps (Some w) none some = let x = some w refl in go ps x.0 x.1 x.2 x.3
+  where
+    all_none : (ps : List ℕ) → ((i : ℕ) → i < length ps → (f (get_or ps i 0)).own ≡ None) → None ≡ nearest_own (map f ps)
+    all_none [] h = refl
+    all_none (p ∷ ps) h = sym (h 0 (omega arith)) ∙ ap (λ (o : Option ℕ). or_earlier o (f p).own) (all_none ps (λ i l. h (suc i) (omega arith)))
+
+    go : (ps : List ℕ) (i : ℕ) → i < length ps → (f (get_or ps i 0)).own ≡ Some w → ((j : ℕ) → i < j → j < length ps → (f (get_or ps j 0)).own ≡ None) → Some w ≡ nearest_own (map f ps)
+    go [] i l e later = absurd (omega (arith, l))
+    go (p ∷ ps) zero l e later = sym e ∙ ap (λ (o : Option ℕ). or_earlier o (f p).own) (all_none ps (λ i m. later (suc i) (omega arith) (omega arith)))
+    go (p ∷ ps) (suc i) l e later = ap (λ (o : Option ℕ). or_earlier o (f p).own) (go ps i (omega arith) e (λ j m n. later (suc j) (omega arith) (omega arith)))
+
+-- one task more is cleared
+pub clear-step : (table now later : Table) (ps : List ℕ) (i p : ℕ) → i < length ps → p ≡ get_or ps i 0 → now ≡ without_all table (take i ps) → later ≡ without now p
+    → later ≡ without_all table (take (i + 1) ps)
+clear-step table now later ps i p h p-is now-is later-is =
+    later-is
+    ∙ (ap (λ (t : Table). without t p) now-is
+    ∙ (ap (without (without_all table (take i ps))) p-is
+    ∙ sym (ap (without_all table) (take_more ps i 0 h) ∙ without_all-push table (take i ps) (get_or ps i 0))))

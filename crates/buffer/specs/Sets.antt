@@ -1,0 +1,57 @@
+-- The rows of the central buffer, set by set: a row has an address and a version for each processor; address a lives in
+-- set a mod 16.
+use Rattle.std.specs.Prelude.{◌≡◌, ℕ, ◌%◌, ◌<◌, Bool, true, not, ◌&&◌, ◌⊎◌, List, [], length, get_or, Option, ◌==◌, slice_index_or, slice_set}
+use Rattle.std.specs.List.{find, list_any}
+use Rattle.std.specs.Option.{option_map, unwrap_or}
+use Rattle.buffer.specs.declared.rows.Row.{Row}
+use Rattle.versions.specs.declared.version.Version.{Version}
+use Rattle.versions.specs.Tables.{Table}
+use Rattle.versions.specs.Versions.{no_version, is_held}
+
+-- past the rows of a set
+abbrev pub no_row : Row
+no_row = record { address = 0; versions = [] }
+
+-- p's version in a row, and the row with v as p's version of a
+abbrev pub in_row : Row → ℕ → Version
+in_row r p = slice_index_or r.versions p no_version
+
+abbrev pub row_with : Row → ℕ → ℕ → Version → Row
+row_with r p a v = record { address = a; versions = slice_set r.versions p v }
+
+-- nobody holds the row
+abbrev pub is_free : Row → Bool
+is_free r = not (list_any is_held r.versions)
+
+-- p's version of a among the rows of a set: that of the first row of the address in which p holds it
+abbrev pub in_rows : List Row → ℕ → ℕ → Version
+in_rows rs p a = unwrap_or (option_map (λ r. in_row r p) (find (λ r. r.address == a && is_held (in_row r p)) rs)) no_version
+
+-- the versions that the sets keep, by processor and address
+abbrev pub in_sets : List (List Row) → Table
+in_sets sets p a = in_rows (slice_index_or sets (a % 16) []) p a
+
+-- the address of the first row that p holds
+abbrev pub held_address : List Row → ℕ → Option ℕ
+held_address rs p = option_map (λ r. r.address) (find (λ r. is_held (in_row r p)) rs)
+
+-- the rows without p's versions
+abbrev pub without_row : ℕ → Row → Row
+without_row p r = record { address = r.address; versions = slice_set r.versions p no_version }
+
+-- the rows of class c: there are four, each for four processors; a processor holds one at most, of an address of the class
+pub record GoodSet (c : ℕ) (rs : List Row) : Type 0 where
+  pub count : length rs ≡ 4
+  pub wide : (j : ℕ) → j < 4 → length (get_or rs j no_row).versions ≡ 4
+  pub one : (p i j : ℕ) → i < 4 → j < 4 → is_held (in_row (slice_index_or rs i no_row) p) ≡ true → is_held (in_row (slice_index_or rs j no_row) p) ≡ true → i ≡ j
+  pub class : (p j : ℕ) → j < 4 → is_held (in_row (slice_index_or rs j no_row) p) ≡ true → (get_or rs j no_row).address % 16 ≡ c
+
+pub record GoodSets (sets : List (List Row)) : Type 0 where
+  pub count : length sets ≡ 16
+  pub each : (c : ℕ) → c < 16 → GoodSet c (slice_index_or sets c [])
+
+-- the row at place j can take p's version of a: it is of that address or free, and p holds no other row of the set
+pub record RowFor (rs : List Row) (p a j : ℕ) : Type 0 where
+  pub within : j < 4
+  pub fits : ((get_or rs j no_row).address ≡ a) ⊎ (is_free (slice_index_or rs j no_row) ≡ true)
+  pub only : (i : ℕ) → i < 4 → is_held (in_row (slice_index_or rs i no_row) p) ≡ true → i ≡ j
