@@ -1,6 +1,6 @@
 // Reading turns: every line has a verb and its fields, one space between, and ends in byte 10. A line is checked verb
 // first, then field by field, then for extras and its end, and last for a place in the list.
-ghost use Rattle.std.specs.Prelude.{◌≡◌, ◌^◌, ◌<◌, ◌≤◌, ◌++◌, length, Some, MatchResult, OnOk};
+ghost use Rattle.std.specs.Prelude.{◌≡◌, ◌++◌, length, Some, MatchResult, OnOk};
 ghost use Rattle.player.specs.Canonical.{Exact};
 ghost use Rattle.player.specs.Left.{after, parts_left, FieldTaken, NoField, TurnTaken, NoTurn, end_answer, line_turn, listed_answer, listed, listed_row};
 ghost use Rattle.player.specs.Lists.{content, free, room, row_of};
@@ -33,10 +33,10 @@ pub fn read_turns(text: &[u8], turns: &mut RowList<Turn>) -> Result<(), TextFaul
     Ok(())
 }
 
-// Takes a field of a line.
+// Takes a field of a line. A space, a line end or the end of the text comes next: that is so after a part of a line and not
+// where a line begins, so each step within a line requires it.
 fn read_field(tokens: &mut Tokens) -> Result<u32, TextWhy>
-    requires place_fits { end_of tokens.old < 2 ^ 64 }
-    requires between_parts { part_length (text_left tokens.old) ≡ 0 }
+    requires { part_length (text_left tokens.old) ≡ 0 }
     ensures field { MatchResult result (FieldTaken (text_left tokens.old) (text_left tokens.new)) (NoField (text_left tokens.old)) }
     ensures place { end_of tokens.new ≡ end_of tokens.old }
 {
@@ -49,8 +49,7 @@ fn read_field(tokens: &mut Tokens) -> Result<u32, TextWhy>
 // Takes the fields of a verb, and gives its turn.
 #[tactic(auto, using(crate::proofs::Following::refused_fields))]
 fn read_fields(verb: Verb, tokens: &mut Tokens) -> Result<Turn, TextWhy>
-    requires place_fits { end_of tokens.old < 2 ^ 64 }
-    requires between_parts { part_length (text_left tokens.old) ≡ 0 }
+    requires { part_length (text_left tokens.old) ≡ 0 }
     ensures turn { MatchResult result (TurnTaken verb (text_left tokens.old) (text_left tokens.new)) (NoTurn verb (text_left tokens.old)) }
     ensures place { end_of tokens.new ≡ end_of tokens.old }
 {
@@ -79,8 +78,7 @@ fn read_fields(verb: Verb, tokens: &mut Tokens) -> Result<Turn, TextWhy>
 
 // Takes the end of a line, after which no part may be left.
 fn read_end(tokens: &mut Tokens) -> Result<(), TextWhy>
-    requires place_fits { end_of tokens.old < 2 ^ 64 }
-    requires between_parts { part_length (text_left tokens.old) ≡ 0 }
+    requires { part_length (text_left tokens.old) ≡ 0 }
     ensures end { result ≡ end_answer (parts_left (text_left tokens.old)) (after line_end (text_left tokens.old)) }
     ensures line { OnOk result (after line_end (text_left tokens.old) ≡ Some (text_left tokens.new)) }
     ensures place { end_of tokens.new ≡ end_of tokens.old }
@@ -93,8 +91,7 @@ fn read_end(tokens: &mut Tokens) -> Result<(), TextWhy>
 
 // Takes what follows the first token of a line, and gives the line's turn.
 fn read_turn(first: Token, tokens: &mut Tokens) -> Result<Turn, TextWhy>
-    requires place_fits { end_of tokens.old < 2 ^ 64 }
-    requires between_parts { part_length (text_left tokens.old) ≡ 0 }
+    requires { part_length (text_left tokens.old) ≡ 0 }
     ensures turn { result ≡ line_turn (word_seen first.entry) (text_left tokens.old) }
     ensures line { OnOk result (after line_end (text_left tokens.old) ≡ Some (text_left tokens.new)) }
     ensures place { end_of tokens.new ≡ end_of tokens.old }
@@ -110,8 +107,7 @@ fn read_turn(first: Token, tokens: &mut Tokens) -> Result<Turn, TextWhy>
 
 // Takes what follows the first token of a line, and adds the line's turn to the list.
 fn read_line(first: Token, tokens: &mut Tokens, turns: &mut RowList<Turn>) -> Result<(), TextWhy>
-    requires place_fits { end_of tokens.old < 2 ^ 64 }
-    requires between_parts { part_length (text_left tokens.old) ≡ 0 }
+    requires { part_length (text_left tokens.old) ≡ 0 }
     ensures answer { result ≡ listed_answer (line_turn (word_seen first.entry) (text_left tokens.old)) (content turns.old) (room turns.old) }
     ensures after { content turns.new ≡ listed (line_turn (word_seen first.entry) (text_left tokens.old)) (content turns.old) (room turns.old) }
     ensures row { row_of turns.new ≡ listed_row (line_turn (word_seen first.entry) (text_left tokens.old)) (content turns.old) (room turns.old) (row_of turns.old) }

@@ -12,7 +12,7 @@ returns-in_default c =
     let other : token ≡ LineEnd → ⊥ = search rules in
     let seen = token-seen c.next.result token (same ∙ c.in_default.is) in
     record {
-      end = end-missing c.args.tokens.now.at seen.0 c.args.tokens.now.rest.now token c.requires.between_parts other (sym seen.1 ∙ c.next.ensures.token);
+      end = end-missing c.args.tokens.now.at seen.0 c.args.tokens.now.rest.now token c.requires other (sym seen.1 ∙ c.next.ensures.token);
       line = tt;
       place = c.next.ensures.place;
     }

@@ -9,8 +9,8 @@ use Rattle.player.proofs.Following.{after-part}
 use Rattle.player.proofs.Reading.{Begun, after-length, verb-taken, line-turn, line-stops, line-goes-on}
 use Rattle.player.proofs.text.read_turns.Goals as goal
 
-pub read_line-requires-clause-between_parts : goal.read_line-requires-clause-between_parts
-read_line-requires-clause-between_parts c = ap part_length c.in-Some.ensures.text ∙ (after-part c.loop-first.tokens.rest.now).2
+pub read_line-requires : goal.read_line-requires
+read_line-requires c = ap part_length c.in-Some.ensures.text ∙ (after-part c.loop-first.tokens.rest.now).2
 
 pub returns-in-Err : goal.returns-in-Err
 returns-in-Err c =
@@ -63,7 +63,6 @@ loop-first-preserved c =
     f.answer f.after f.row rest place c.loop-first.invariant.0 in (
       subst (λ (k : ℕ). Begun (content l₀) (row_of l₀) all (content l') (row_of l') (lines_read t'.at (k - length (content l')) (split line_end t'.rest.now))) (sym f.room) d,
       f.room ∙ c.loop-first.invariant.1,
-      place ∙ c.loop-first.invariant.2,
     )
 
 pub returns-clause-exact : goal.returns-clause-exact

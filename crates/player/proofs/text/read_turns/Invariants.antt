@@ -12,7 +12,6 @@ invariant-loop-first l =
     Begun (content l.initial.turns) (row_of l.initial.turns) (text_read (free l.initial.turns) l.text)
     (content l.turns) (row_of l.turns) (lines_read (place_of l.tokens) (free l.turns) (split line_end (text_left l.tokens)))
     × (room l.turns ≡ room l.initial.turns)
-    × (end_of l.tokens ≡ length l.text)
 
 abbrev pub decreases-loop-first : goal.decreases-loop-first
 decreases-loop-first l = length (text_left l.tokens)
