@@ -1,6 +1,6 @@
 // Byte memory: word a lies in bytes 4a to 4a+3 of a row that the caller lends, lowest byte first. One to three
 // bytes at the row's end may belong to no word, and are never touched.
-ghost use Rattle.std.specs.Prelude.{◌≡◌, ℕ, ◌/◌, ◌<◌, List, length, Ok, slice_get};
+ghost use Rattle.std.specs.Prelude.{◌≡◌, ℕ, ◌/◌, List, length, Ok, slice_get};
 ghost use Rattle.memory.specs.Words.{read_answer, write_answer, written_words, open_answer, MemorySize};
 ghost use Rattle.memory.specs.Bytes.{words_of, written_bytes, spare_bytes, words_of-sized};
 

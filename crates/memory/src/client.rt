@@ -1,6 +1,6 @@
 // Code over any memories, written and proved once: it knows nothing of them but their interface. So it goes by
 // addresses, as a memory shows no slice of its words.
-ghost use Rattle.std.specs.Prelude.{◌≡◌, ℕ, ◌≤◌, min, List, length, Ok};
+ghost use Rattle.std.specs.Prelude.{◌≡◌, ℕ, List, Ok};
 ghost use Rattle.memory.specs.Client.{shared, copied, differences};
 
 use crate::error::MemoryError;

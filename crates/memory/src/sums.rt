@@ -1,5 +1,5 @@
 // Adler-32, the well-known checksum, of all words of a memory, each by its bytes, lowest first.
-ghost use Rattle.std.specs.Prelude.{◌≡◌, ℕ, List, length, Ok};
+ghost use Rattle.std.specs.Prelude.{◌≡◌, ℕ, List, Ok};
 ghost use Rattle.memory.specs.Adler.{with_byte, with_word_bytes, adler32};
 
 use crate::error::MemoryError;
