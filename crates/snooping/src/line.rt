@@ -9,7 +9,7 @@ use versions::{Order, Version};
 // State, tag, word and pointer stand side by side, as hardware keeps them. The tag is the whole address. The pointer names
 // the processor whose line is next in the address's version ordering list. An invalid line has no tag, word or pointer:
 // zeros and none.
-#[derive(Clone, Copy)]
+#[derive(Clone, Copy, PartialEq, Debug)]
 pub struct Line {
     pub state: LineState,
     pub tag: u32,

@@ -7,7 +7,7 @@ use memory::{Memory, WordMemory};
 use std::process::Abort;
 use std::test::Fail;
 use stores::{
-    Answer, BusReport, CentralBuffer, LineState, Refusal, SnoopingStore, Turn, VersionStore,
+    Answer, BusReport, CentralBuffer, Line, LineState, Refusal, SnoopingStore, Turn, VersionStore,
 };
 
 // A report in numbers: kind, address, supplier, invalidations, words written back.
@@ -30,43 +30,34 @@ fn bus_wback(a: u32, words: u32) -> Report {
 }
 
 // A line of processor p.
-#[derive(Clone, Copy, PartialEq, Debug)]
+#[derive(Clone, Copy)]
 struct Row {
     p: u32,
-    state: LineState,
-    tag: u32,
-    word: u32,
-    next: Option<u32>,
+    line: Line,
 }
 
 // The line with L alone, with S alone, and with both.
 fn loaded(p: u32, tag: u32, word: u32, next: Option<u32>) -> Row {
-    Row {
-        p,
-        state: LineState::Loaded,
-        tag,
-        word,
-        next,
-    }
+    in_state(p, LineState::Loaded, tag, word, next)
 }
 
 fn stored(p: u32, tag: u32, word: u32, next: Option<u32>) -> Row {
-    Row {
-        p,
-        state: LineState::Stored,
-        tag,
-        word,
-        next,
-    }
+    in_state(p, LineState::Stored, tag, word, next)
 }
 
 fn both(p: u32, tag: u32, word: u32, next: Option<u32>) -> Row {
+    in_state(p, LineState::Both, tag, word, next)
+}
+
+fn in_state(p: u32, state: LineState, tag: u32, word: u32, next: Option<u32>) -> Row {
     Row {
         p,
-        state: LineState::Both,
-        tag,
-        word,
-        next,
+        line: Line {
+            state,
+            tag,
+            word,
+            next,
+        },
     }
 }
 
@@ -99,14 +90,13 @@ fn in_numbers(report: BusReport) -> Report {
 }
 
 // Line c of p as the rows have it: invalid, if they have none.
-fn line_of(lines: &[Row], p: u32, c: u32) -> Row {
+fn line_of(lines: &[Row], p: u32, c: u32) -> Line {
     for row in lines {
-        if row.p == p && row.tag % 16 == c {
-            return *row;
+        if row.p == p && row.line.tag % 16 == c {
+            return row.line;
         }
     }
-    Row {
-        p,
+    Line {
         state: LineState::Invalid,
         tag: 0,
         word: 0,
@@ -114,39 +104,19 @@ fn line_of(lines: &[Row], p: u32, c: u32) -> Row {
     }
 }
 
-// Line c of p as the store has it.
-fn line_in<M: Memory>(caches: &SnoopingStore<M>, p: u32, c: u32) -> Result<Row, Fail>
-    requires { SoundSnooping M.Memory.words M.Memory.sound caches.now }
-{
-    let line = caches.line(p, c).ok_or("no such line")?;
-    Ok(Row {
-        p,
-        state: line.state,
-        tag: line.tag,
-        word: line.word,
-        next: line.next,
-    })
-}
-
 // Holds the report and all 64 lines to what is expected, and every row of it to its line.
-fn compare<M: Memory>(
-    rt: &impl Abort,
-    caches: &SnoopingStore<M>,
-    report: Report,
-    lines: &[Row],
-) -> Result<(), Fail>
+fn compare<M: Memory>(rt: &impl Abort, caches: &SnoopingStore<M>, report: Report, lines: &[Row])
     requires { SoundSnooping M.Memory.words M.Memory.sound caches.now }
 {
     assert_eq!(rt; in_numbers(caches.report()), report);
     for p in 0..4 {
         for c in 0..16 {
-            assert_eq!(rt; line_in(caches, p, c)?, line_of(lines, p, c));
+            assert_eq!(rt; caches.line(p, c), Some(line_of(lines, p, c)));
         }
     }
     for row in lines {
-        assert_eq!(rt; line_in(caches, row.p, row.tag % 16)?, *row);
+        assert_eq!(rt; caches.line(row.p, row.line.tag % 16), Some(row.line));
     }
-    Ok(())
 }
 
 // Starts the tasks in their order, plays the turns, and looks at the store after each.
@@ -159,15 +129,15 @@ fn watch<M: Memory>(
     requires { SoundSnooping M.Memory.words M.Memory.sound caches.old }
     ensures kept { SoundSnooping M.Memory.words M.Memory.sound caches.new }
 {
-    compare(rt, caches, QUIET, &[])?;
+    compare(rt, caches, QUIET, &[]);
     for p in order {
         let active = caches.tasks();
         assert_eq!(rt; caches.start(*p), Ok(active));
-        compare(rt, caches, QUIET, &[])?;
+        compare(rt, caches, QUIET, &[]);
     }
     for step in played {
         assert_eq!(rt; caches.take_turn(step.turn), step.answer);
-        compare(rt, caches, step.report, step.lines)?;
+        compare(rt, caches, step.report, step.lines);
     }
     Ok(())
 }
