@@ -2,7 +2,7 @@ use Rattle.std.proofs.Common.{◌≡◌, length}
 use Rattle.player.specs.Lists.{free, content, room, row_of}
 use Rattle.player.specs.Splits.{split, line_end}
 use Rattle.player.specs.Text.{lines_read, text_read}
-use Rattle.player.specs.Tokens.{text_left, place_of, end_of}
+use Rattle.player.specs.Tokens.{text_left, place_of}
 use Rattle.player.proofs.Reading.{Begun}
 use Rattle.player.proofs.text.read_turns.Given as goal
 
