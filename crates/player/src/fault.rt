@@ -73,7 +73,7 @@ pub enum TextWhy {
 }
 
 impl TextWhy {
-    // The number by which users know the fault.
+    // The number by which users know the fault. One variant has a fault inside, so that no number stands at the variants.
     pub fn number(self) -> u8
         ensures { result ≡ text_number self }
     {

@@ -108,7 +108,8 @@ fn lay_pairs<M: Memory>(memory: &mut M, pairs: &[u8], words: &[u8])
     }
 }
 
-// Puts the first of some words into the memory, as a pair says, and gives the bytes after them.
+// Puts the first of some words into the memory, as a pair says, and gives the bytes after them, where the next pair's words
+// begin: so the loop counts the words and shortens the slice.
 fn lay_pair<'a, M: Memory>(memory: &mut M, pair: Pair, words: &'a [u8]) -> &'a [u8]
     requires sound { M.Memory.sound memory.old }
     requires pair_in_bounds { pair_end pair ≤ length (M.Memory.words memory.old) }

@@ -5,7 +5,7 @@ ghost use Rattle.versions.specs.Turns.{processor_of, turn_text};
 use std::fmt;
 
 // p is a processor, a an address, w a word; any numbers of 32 bits.
-#[derive(Clone, Copy)]
+#[derive(Clone, Copy, PartialEq, Debug)]
 pub enum Turn {
     Start { p: u32 },
     Load { p: u32, a: u32 },

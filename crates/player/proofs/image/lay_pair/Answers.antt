@@ -1,11 +1,6 @@
-use Rattle.std.proofs.Common.{refl, ◌∙◌, arith}
-use Rattle.std.proofs.lemmas.List.Edits.{paste_none}
-use Rattle.memory.specs.Bytes.{words_of}
+use Rattle.std.proofs.Common.{◌∙◌, arith}
 use Rattle.player.proofs.Laying.{put_next}
 use Rattle.player.proofs.image.lay_pair.Goals as goal
-
-pub loop-k-init : goal.loop-k-init
-loop-k-init g c = (c.requires.sound, paste_none _ c.args.pair.offset (words_of c.args.words.now), refl, omega arith, refl)
 
 pub loop-k-preserved : goal.loop-k-preserved
 loop-k-preserved g c =
