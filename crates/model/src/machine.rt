@@ -1,6 +1,8 @@
 // A store that carries out commands: what it shows of itself, and that only a turn changes it.
-ghost use Rattle.std.specs.Prelude.{◌≡◌, ℕ, Option, Some, None};
-ghost use Rattle.versions.specs.Plain.{opened, answer_of, state_after, word_of};
+ghost use Rattle.std.specs.Prelude.{◌≡◌, ℕ, Option, Some, None, refl};
+ghost use Rattle.std.proofs.Common.{ap};
+ghost use Rattle.versions.specs.declared.turn.Turn.{Turn};
+ghost use Rattle.versions.specs.Plain.{word_of};
 ghost use Rattle.snooping.specs.declared.report.BusReport.{BusReport};
 ghost use Rattle.snooping.specs.Report.{quiet};
 ghost use Rattle.model.specs.Commands.{asked_of};
@@ -8,29 +10,14 @@ ghost use Rattle.model.specs.Machines.{seen_of, line_seen, bus_after, reply_to, 
 
 use crate::command::{Asked, Command, Reply};
 use memory::Memory;
-use stores::{Answer, BusReport, CentralBuffer, Line, Refusal, SnoopingStore, Turn, VersionStore};
+use stores::{BusReport, CentralBuffer, Line, Refusal, SnoopingStore, VersionStore};
 
 pub trait Machine: VersionStore {
-    // What the bus reports of the latest accepted turn, of a store that has one.
+    // What the bus reports of the latest accepted turn, of a store with a bus.
     ghost bus: { Self → Option BusReport };
 
-    // And of none, as a store is opened.
+    // And as the store is opened.
     ghost first_report: { Option BusReport };
-
-    // A store over a memory that is open. No task is active.
-    fn open(memory: Self::Below) -> Self
-        requires { Self.Below.Memory.sound memory }
-        ensures plain { Self.plain result ≡ opened (Self.Below.Memory.words memory) }
-        ensures bus { bus result ≡ first_report }
-        ensures kept { Self.sound result };
-
-    // Plays one turn, of which the bus reports.
-    fn turn(&mut self, turn: Turn) -> Answer
-        requires { Self.sound self.old }
-        ensures answer { result ≡ answer_of (Self.plain self.old) turn }
-        ensures after { Self.plain self.new ≡ state_after (Self.plain self.old) turn }
-        ensures bus { bus self.new ≡ bus_after (bus self.old) (Self.plain self.old) turn }
-        ensures kept { Self.sound self.new };
 
     // The memory's word at a, of which the bus does not report.
     fn memory_word(&mut self, a: u32) -> Result<u32, Refusal>
@@ -57,7 +44,7 @@ pub trait Machine: VersionStore {
         ensures kept { Self.sound self.new }
     {
         match Asked::try_from(command) {
-            Ok(Asked::Played(turn)) => Reply::from(self.turn(turn)),
+            Ok(Asked::Played(turn)) => Reply::from(self.take_turn(turn)),
             Ok(Asked::Word { a }) => Reply::from(self.memory_word(a)),
             Ok(Asked::Tasks) => Reply::from(self.tasks()),
             Ok(Asked::OneLine { p, c }) => Reply::from(self.line(p, c)),
@@ -65,20 +52,17 @@ pub trait Machine: VersionStore {
             Err(_) => Reply::nothing(),
         }
     }
+
+    // The bus is part of what a store shows of its opening and of its turns.
+    ghost opening: { (store : Self) → Self.opens store → bus store ≡ first_report };
+
+    ghost turning: { (store : Self) (turn : Turn) (later : Self) → Self.shows store turn later → bus later ≡ bus_after (bus store) (Self.plain store) turn };
 }
 
 impl<M: Memory> Machine for SnoopingStore<M> {
     ghost bus = { λ s. Some s.report };
 
     ghost first_report = { Some quiet };
-
-    fn open(memory: M) -> SnoopingStore<M> {
-        SnoopingStore::open(memory)
-    }
-
-    fn turn(&mut self, turn: Turn) -> Answer {
-        self.take_turn(turn)
-    }
 
     fn memory_word(&mut self, a: u32) -> Result<u32, Refusal> {
         self.word(a)
@@ -91,6 +75,10 @@ impl<M: Memory> Machine for SnoopingStore<M> {
     fn report(&self) -> Option<BusReport> {
         Some(SnoopingStore::report(self))
     }
+
+    ghost opening = { λ _ opened. ap Some opened };
+
+    ghost turning = { λ _ _ _ shown. ap Some shown.report };
 }
 
 // The central buffer has no lines and no bus to report of.
@@ -98,14 +86,6 @@ impl<M: Memory> Machine for CentralBuffer<M> {
     ghost bus = { λ _. None };
 
     ghost first_report = { None };
-
-    fn open(memory: M) -> CentralBuffer<M> {
-        CentralBuffer::open(memory)
-    }
-
-    fn turn(&mut self, turn: Turn) -> Answer {
-        self.take_turn(turn)
-    }
 
     fn memory_word(&mut self, a: u32) -> Result<u32, Refusal> {
         self.word(a)
@@ -118,4 +98,8 @@ impl<M: Memory> Machine for CentralBuffer<M> {
     fn report(&self) -> Option<BusReport> {
         None
     }
+
+    ghost opening = { λ _ _. refl };
+
+    ghost turning = { λ _ _ _ _. refl };
 }

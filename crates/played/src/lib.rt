@@ -1,0 +1,69 @@
+// What the programs `play` and `central` do, on any version store over any memory: two files are read, played, and listed.
+#![tactic(auto)]
+
+ghost use Rattle.std.specs.Prelude.{◌≡◌, IfOk, string_bytes, vec_items};
+ghost use Rattle.played.specs.Played.{listing_played};
+
+use files::read_start;
+use memory::Memory;
+use player::{RowList, listing, play_on};
+use std::alloc::Global;
+use std::fs::Files;
+use std::io::Print;
+use stores::{Turn, VersionStore};
+
+// As much of a file as is read.
+const MOST_BYTES: usize = 32768;
+
+// As many turns, and as many answers, as there are places for.
+const MOST_TURNS: usize = 2048;
+
+// Plays the turns of `turns.txt` over a memory that `image.bin` fills, and prints the listing. What the two files hold, no contract
+// can say.
+pub fn print_listing<S: VersionStore>(
+    rt: &(impl Files + Print + AllocGlobal),
+    memory: S::Below,
+) -> anyhow::Result<()>
+where
+    S::Below: Drop,
+    requires { S.Below.Memory.sound memory }
+{
+    let image = read_start(rt, "image.bin", MOST_BYTES)?;
+    let text = read_start(rt, "turns.txt", MOST_BYTES)?;
+    let listing = listing_of::<S>(rt.alloc(), memory, image.as_slice(), text.as_slice())?;
+    rt.print(listing.as_str())?;
+    Ok(())
+}
+
+// The listing of a text of turns that is played over an image.
+pub fn listing_of<S: VersionStore>(
+    heap: Global,
+    memory: S::Below,
+    image: &[u8],
+    text: &[u8],
+) -> anyhow::Result<String>
+where
+    S::Below: Drop,
+    requires { S.Below.Memory.sound memory }
+    ensures { IfOk result (λ listing. string_bytes listing ≡ listing_played MOST_TURNS (S.Below.Memory.words memory) image.now text.now) }
+{
+    let mut turn_row = vec![in heap; Turn::Start { p: 0 }; MOST_TURNS]?;
+    let mut answer_row = vec![in heap; Ok(0); MOST_TURNS]?;
+    let mut turns = RowList::new(turn_row.as_mut_slice());
+    let mut answers = RowList::new(answer_row.as_mut_slice());
+    let (mut memory, outcome) = play_on::<S>(memory, image, text, &mut turns, &mut answers);
+    let words = words_of(heap, &mut memory)?;
+    Ok(listing(heap, answers.items(), outcome, words.as_slice())?)
+}
+
+// The words of a memory, in their order.
+fn words_of<M: Memory>(heap: Global, memory: &mut M) -> anyhow::Result<Vec<u32>>
+    requires { M.Memory.sound memory.old }
+    ensures { IfOk result (λ words. words.items ≡ M.Memory.words memory.old) }
+{
+    let mut words = Vec::new(heap);
+    for a in 0..memory.size() {
+        words.push(memory.read(a)?)?;
+    }
+    Ok(words)
+}
