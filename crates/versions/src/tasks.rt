@@ -104,11 +104,10 @@ pub trait TaskTable {
         ensures value { result ≡ squash_place (processors self.now) p }
         ensures apart { Apart (processors self.now) }
     {
-        let k = self.active(p)?;
-        if k == 0 {
-            return Err(Refusal::IsHead);
+        match self.active(p)? {
+            0 => Err(Refusal::IsHead),
+            k => Ok(k),
         }
-        Ok(k)
     }
 
     // The place of p's task, unless p may not commit.
@@ -116,11 +115,10 @@ pub trait TaskTable {
         ensures value { result ≡ commit_place (processors self.now) p }
         ensures apart { Apart (processors self.now) }
     {
-        let k = self.active(p)?;
-        if k != 0 {
-            return Err(Refusal::NotHead);
+        match self.active(p)? {
+            0 => Ok(0),
+            _ => Err(Refusal::NotHead),
         }
-        Ok(k)
     }
 
     // The place of p's task, unless p may not replace a, in a memory of n words.
