@@ -151,12 +151,12 @@ impl<M: Memory> VersionStore for CentralBuffer<M> {
     fn take_turn(&mut self, turn: Turn) -> Answer {
         let p = Processor::try_from(turn.processor())?;
         match turn {
-            Turn::Start { p: _ } => self.begin(p),
-            Turn::Load { p: _, a } => self.fetch(p, a),
-            Turn::Store { p: _, a, w } => self.put(p, a, w),
-            Turn::Squash { p: _ } => self.cut(p),
-            Turn::Commit { p: _ } => self.retire(p),
-            Turn::Replace { p: _, a } => self.give_back(p, a),
+            Turn::Start { .. } => self.begin(p),
+            Turn::Load { a, .. } => self.fetch(p, a),
+            Turn::Store { a, w, .. } => self.put(p, a, w),
+            Turn::Squash { .. } => self.cut(p),
+            Turn::Commit { .. } => self.retire(p),
+            Turn::Replace { a, .. } => self.give_back(p, a),
         }
     }
 
