@@ -26,12 +26,3 @@ nearest_from f ps (Some w) none some = let x = some w refl in go ps x.0 x.1 x.2 
     go [] i l e later = absurd (omega (arith, l))
     go (p ∷ ps) zero l e later = sym e ∙ ap (λ (o : Option ℕ). or_earlier o (f p).own) (all_none ps (λ i m. later (suc i) (omega arith) (omega arith)))
     go (p ∷ ps) (suc i) l e later = ap (λ (o : Option ℕ). or_earlier o (f p).own) (go ps i (omega arith) e (λ j m n. later (suc j) (omega arith) (omega arith)))
-
--- one task more is cleared
-pub clear-step : (table now later : Table) (ps : List ℕ) (i p : ℕ) → i < length ps → p ≡ get_or ps i 0 → now ≡ without_all table (take i ps) → later ≡ without now p
-    → later ≡ without_all table (take (i + 1) ps)
-clear-step table now later ps i p h p-is now-is later-is =
-    later-is
-    ∙ (ap (λ (t : Table). without t p) now-is
-    ∙ (ap (without (without_all table (take i ps))) p-is
-    ∙ sym (ap (without_all table) (take_more ps i 0 h) ∙ without_all-push table (take i ps) (get_or ps i 0))))

@@ -1,11 +1,11 @@
 -- A turn that a store with a table of versions serves: from its chain of conditions and its changes of words, order and
 -- table to the plain store's answer and state.
-use Rattle.std.proofs.Common.{◌≡◌, ℕ, suc, ◌+◌, ◌-◌, ◌%◌, ◌<◌, ◌≤◌, Bool, true, false, cond, not, ◌&&◌, eqb, ltb, leb, List, [], ◌∷◌, ◌++◌, map, length, get_or, take, drop, is_some, Some, None, Ok, Err, Option, Result, sym, refl, ap, ◌∙◌, subst, ⊎_elim, add-one}
+use Rattle.std.proofs.Common.{◌≡◌, ℕ, suc, ◌+◌, ◌-◌, ◌%◌, ◌<◌, true, false, cond, not, ◌&&◌, eqb, ltb, leb, List, [], ◌∷◌, ◌++◌, map, length, get_or, take, drop, is_some, Some, None, Ok, Err, Option, Result, sym, ap, ◌∙◌, subst, ⊎_elim, add-one}
 use Rattle.memory.specs.Client.{count_below}
 use Rattle.memory.specs.Words.{read_answer}
 use Rattle.memory.specs.declared.error.MemoryError.{MemoryError}
 use Rattle.memory.specs.declared.error.MemoryError.TheVariants.{Address}
-use Rattle.std.proofs.lemmas.Bool.{eq-eqb, ne_eqb, cases_eq, cond-true, cond-false, lt-leb, le-leb, lt-ltb, true≢false}
+use Rattle.std.proofs.lemmas.Bool.{eq-eqb, ne_eqb, cases_eq, cond-true, cond-false, lt-leb, lt-ltb, true≢false}
 use Rattle.versions.specs.declared.refusal.Refusal.{Refusal}
 use Rattle.versions.specs.declared.refusal.Refusal.TheVariants.{NoProcessor, TaskActive}
 use Rattle.versions.specs.declared.turn.Turn.{Turn}
@@ -56,14 +56,9 @@ class-free n ps table p a x free b held class =
 
 module _ (ws ps : List ℕ) (table : Table) (apart : Apart ps) (x : Fitting (length ws) ps table) where
   -- a start
-  pub start-low : (p : ℕ) → 4 ≤ p → refusal_of (plain_of ws ps table) (Start p) ≡ Some NoProcessor
-  start-low p h = start-agrees ws ps table p ∙ cond-true (leb 4 p) (Some NoProcessor) (cond (is_some (place_in ps p)) (Some TaskActive) None) (le-leb 4 p h)
 
   start-judged : (p : ℕ) → p < 4 → refusal_of (plain_of ws ps table) (Start p) ≡ cond (is_some (place_in ps p)) (Some TaskActive) None
   start-judged p h = start-agrees ws ps table p ∙ cond-false (leb 4 p) (Some NoProcessor) (cond (is_some (place_in ps p)) (Some TaskActive) None) (lt-leb 4 p h)
-
-  pub start-busy : (p : ℕ) → p < 4 → is_some (place_in ps p) ≡ true → refusal_of (plain_of ws ps table) (Start p) ≡ Some TaskActive
-  start-busy p h busy = start-judged p h ∙ ap (λ (t : Bool). cond t (Some TaskActive) None) busy
 
   pub serve-start : (p : ℕ) (later : List ℕ) (table' : Table) → p < 4 → place_in ps p ≡ None → later ≡ ps ++ p ∷ [] → table' ≡ table
       → Served (plain_of ws ps table) (Start p) (Ok (length ps)) ws later table'
@@ -176,10 +171,6 @@ module _ (ws ps : List ℕ) (table : Table) (apart : Apart ps) (x : Fitting (len
       front_kept : (q j m : ℕ) → place_in (take m ps) q ≡ Some j → (b : ℕ) → without_all table (drop m ps) q b ≡ table q b
       front_kept q j m inside b =
           without_all-value table (drop m ps) q b ∙ ap (λ (o : Option ℕ). cond (is_some o) no_version (table q b)) (front_out m ps q j apart inside)
-
-pub none_from : (o : Option ℕ) → is_some o ≡ false → o ≡ None
-none_from None e = refl
-none_from (Some k) e = absurd (true≢false e)
 
 pub ok-value : (w v : ℕ) → ◌≡◌ {A = Result ℕ Refusal} (Ok w) (Ok v) → w ≡ v
 ok-value w v e = cc
