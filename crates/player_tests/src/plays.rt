@@ -4,58 +4,64 @@ use player::{RowList, listing, play_on};
 use std::alloc::Global;
 use std::process::Abort;
 use std::test::*;
-use stores::{Answer, CentralBuffer, SnoopingStore, Turn, VersionStore};
+use stores::{Answer, CentralBuffer, SnoopingStore, Turn};
 
-// Plays on a store over these words, with eight places for turns and those given for answers.
-fn plays_on<'a, S: VersionStore<Below = WordMemory<'a>>>(
+// Plays over 64 zero words on the snooping store, with eight places for turns and those given for answers.
+fn snooped(
     rt: &impl Abort,
     alloc: Global,
-    words: &'a mut [u32],
     image: &[u8],
     text: &str,
     places: &mut [Answer],
     lines: &str,
 ) -> Result<(), Fail> {
+    let mut words = [0u32; 64];
     let mut row = [Turn::Start { p: 0 }; 8];
     let mut turns = RowList::new(&mut row);
     let mut answers = RowList::new(places);
-    assert!(rt; WordMemory::check(words).is_ok());
-    let memory = WordMemory::open(words);
-    let (memory, outcome) = play_on::<S>(memory, image, text.as_bytes(), &mut turns, &mut answers);
+    assert!(rt; WordMemory::check(&words).is_ok());
+    let memory = WordMemory::open(&mut words);
+    let (memory, outcome) = play_on::<SnoopingStore<WordMemory>>(
+        memory,
+        image,
+        text.as_bytes(),
+        &mut turns,
+        &mut answers,
+    );
     let told = listing(alloc, answers.items(), outcome, memory.close())?;
     assert_eq!(rt; told.as_str(), lines, "{}", text);
     Ok(())
 }
 
-// On both over 64 zero words, with so many places for answers.
-fn plays_in<const N: usize>(
+// The same on the central buffer. Written again, since a function for every store over a WordMemory does not know that
+// what the store asks of its memory is what opening the WordMemory promises.
+fn buffered(
     rt: &impl Abort,
     alloc: Global,
     image: &[u8],
     text: &str,
+    places: &mut [Answer],
     lines: &str,
 ) -> Result<(), Fail> {
-    plays_on::<SnoopingStore<WordMemory>>(
-        rt,
-        alloc,
-        &mut [0; 64],
+    let mut words = [0u32; 64];
+    let mut row = [Turn::Start { p: 0 }; 8];
+    let mut turns = RowList::new(&mut row);
+    let mut answers = RowList::new(places);
+    assert!(rt; WordMemory::check(&words).is_ok());
+    let memory = WordMemory::open(&mut words);
+    let (memory, outcome) = play_on::<CentralBuffer<WordMemory>>(
+        memory,
         image,
-        text,
-        &mut [Ok(0); N],
-        lines,
-    )?;
-    plays_on::<CentralBuffer<WordMemory>>(
-        rt,
-        alloc,
-        &mut [0; 64],
-        image,
-        text,
-        &mut [Ok(0); N],
-        lines,
-    )
+        text.as_bytes(),
+        &mut turns,
+        &mut answers,
+    );
+    let told = listing(alloc, answers.items(), outcome, memory.close())?;
+    assert_eq!(rt; told.as_str(), lines, "{}", text);
+    Ok(())
 }
 
-// The same with as many places for answers as for turns.
+// On both, with as many places for answers as for turns.
 fn plays(
     rt: &impl Abort,
     alloc: Global,
@@ -63,7 +69,8 @@ fn plays(
     text: &str,
     lines: &str,
 ) -> Result<(), Fail> {
-    plays_in::<8>(rt, alloc, image, text, lines)
+    snooped(rt, alloc, image, text, &mut [Ok(0); 8], lines)?;
+    buffered(rt, alloc, image, text, &mut [Ok(0); 8], lines)
 }
 
 #[test]
@@ -108,11 +115,21 @@ fn a_full_list_of_turns_is_told_at_its_line(rt: HostRuntime) -> Result<(), Fail>
 
 #[test]
 fn a_full_list_of_answers_is_told_at_its_turn(rt: HostRuntime) -> Result<(), Fail> {
-    plays_in::<2>(
+    let text = "start 0\nstart 1\nstart 2\n";
+    snooped(
         &rt,
         rt.alloc(),
         &[0; 4],
-        "start 0\nstart 1\nstart 2\n",
+        text,
+        &mut [Ok(0); 2],
+        "fault list 16 2\n",
+    )?;
+    buffered(
+        &rt,
+        rt.alloc(),
+        &[0; 4],
+        text,
+        &mut [Ok(0); 2],
         "fault list 16 2\n",
     )
 }
