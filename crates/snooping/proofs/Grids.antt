@@ -115,9 +115,6 @@ cut-all-caches ps cs now p all wide is = is ∙ fun_ext (λ q. fun_ext (λ d. go
         let b = past-blank cs wide q d (omega (arith, ltb-false q p e)) in
         b ∙ (gone (is_some (place_in ps q)) ∙ ap (λ (x : Line). cond (is_some (place_in ps q)) (unlinked ps x) blank) (sym b))
 
-pub cut-start : (ps : List ℕ) (ls : LineTable) → ls ≡ cut_below 0 ps ls
-cut-start ps ls = fun_ext (λ q. fun_ext (λ d. sym (cond-false (ltb q 0) (cut_to ps ls q d) (ls q d) (le-ltb q 0 (omega arith)))))
-
 -- tags stay in their lines where a cache ends, and where the caches are cut
 pub tagged-ended : (ls : LineTable) (p : ℕ) → Tagged ls → Tagged (with_cache ls p (ended Commit))
 tagged-ended ls p tagged = λ q c. go q c (eqb q p)

@@ -3,7 +3,7 @@ use Rattle.std.proofs.lemmas.Result.{err_from_is_err_and}
 use Rattle.versions.specs.declared.turn.Turn.TheVariants.{Start}
 use Rattle.versions.specs.Tables.{start_place}
 use Rattle.snooping.specs.Caches.{processors_of, table_of}
-use Rattle.snooping.proofs.Snooped.{took, took-refused, turn-start, ok-start, start-judged}
+use Rattle.snooping.proofs.Snooped.{took, took-refused, turn-start, start-judged}
 use Rattle.snooping.proofs.store.SnoopingStore.begin.Goals as goal
 
 pub returns-in_err-active : goal.returns-in_err-active
