@@ -5,7 +5,7 @@ use Rattle.std.specs.Option.{option_map}
 use Rattle.std.specs.Result.{result_ok}
 use Rattle.std.proofs.lemmas.List.FromFn.{length-map-range_with_len, get_or-map-range_with_len}
 use Rattle.std.proofs.lemmas.List.{map-append, get_or_past, ext_get_or}
-use Rattle.std.proofs.lemmas.Bool.{eqb-true, eqb-false, leb-false, lt-ltb, and_from, cases_lt, cond-true, cond-false, true≢false}
+use Rattle.std.proofs.lemmas.Bool.{leb-false, lt-ltb, and_from, cases_lt, cond-true, cond-false, true≢false}
 use Rattle.versions.specs.declared.refusal.Refusal.{Refusal}
 use Rattle.versions.specs.declared.refusal.Refusal.TheVariants.{NoProcessor}
 use Rattle.versions.specs.declared.version.Version.{Version}
@@ -13,7 +13,7 @@ use Rattle.versions.specs.Cuts.{up_to, past}
 use Rattle.versions.specs.Orders.{place_in, Apart}
 use Rattle.versions.specs.Plain.{Task, Plain, fresh, is_on, task_on, column}
 use Rattle.versions.specs.Processors.{processor_answer}
-use Rattle.versions.specs.Tables.{Table, task_by, plain_of, Fitting, of_class}
+use Rattle.versions.specs.Tables.{Table, task_by, plain_of, Fitting}
 use Rattle.versions.specs.Versions.{no_version, is_held, is_own, laid_over, seen_by}
 use Rattle.snooping.specs.declared.cache.Cache.{Cache}
 use Rattle.snooping.specs.declared.line.Line.{Line}

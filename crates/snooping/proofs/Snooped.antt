@@ -300,19 +300,39 @@ start-judged ws ps table p h =
     go false = refl
 
 -- from a state whose lines are those of the plain state
-module _ (ws ps : List ℕ) (cs : List Cache) (wide : Wide cs) (apart : Apart ps) (fits : Fitting (length ws) ps (table_by (line_in cs)))
-    (lines : cs ≡ lines_of (plain_of ws ps (table_by (line_in cs)))) (old : BusReport) where
-  abbrev pub ls : LineTable
-  ls = line_in cs
+module _ {M : Type 0} (words : M → List ℕ) {sound : M → Type 0} (st : SnoopingStore M) (kept : SoundSnooping words sound st) (apart : Apart (processors_of st.caches)) where
+  abbrev ws : List ℕ
+  ws = words st.memory
 
-  abbrev pub table : Table
-  table = table_by (line_in cs)
+  abbrev ps : List ℕ
+  ps = processors_of st.caches
 
-  abbrev pub state : Plain
-  state = plain_of ws ps (table_by (line_in cs))
+  abbrev cs : List Cache
+  cs = st.caches.list
 
-  pub laid : Laid ws ps (line_in cs)
-  laid = laid-caches ws ps cs wide lines apart
+  abbrev wide : Wide st.caches.list
+  wide = st.caches.wide
+
+  abbrev fits : Fitting (length (words st.memory)) (processors_of st.caches) (table_by (line_in st.caches.list))
+  fits = kept.fits
+
+  abbrev lines : st.caches.list ≡ lines_of (plain_in words st)
+  lines = kept.lines
+
+  abbrev old : BusReport
+  old = st.report
+
+  abbrev ls : LineTable
+  ls = line_in st.caches.list
+
+  abbrev table : Table
+  table = table_by (line_in st.caches.list)
+
+  abbrev state : Plain
+  state = plain_in words st
+
+  laid : Laid (words st.memory) (processors_of st.caches) (line_in st.caches.list)
+  laid = laid-caches (words st.memory) (processors_of st.caches) st.caches.list st.caches.wide kept.lines apart
 
   pub turn-start : (p k : ℕ) (later : List ℕ) (new : List Cache) (now : BusReport) → p < 4 → Ok k ≡ start_place ps p → later ≡ ps ++ p ∷ [] → new ≡ cs → now ≡ quiet
       → Turned state (Start p) old (Ok k) ws later new now

@@ -42,28 +42,6 @@ impl<M: Memory> SnoopingStore<M> {
         self.report
     }
 
-    // The word at a for the task at place k from its supplier, and who that is: the cache of the processor that has the
-    // nearest earlier version, else the memory.
-    fn supplied(&mut self, k: usize, a: u32) -> Result<(u32, Supplier), Refusal>
-        requires sound { M.Memory.sound self.old.memory }
-        requires k_in_bounds { k ≤ length (processors_of self.old.caches) }
-        requires a_in_bounds { a < length (M.Memory.words self.old.memory) }
-        ensures answer { let nearest = last_that (λ q. is_own (table_of self.old.caches q a)) (take k (processors_of self.old.caches)) in result ≡ Ok (supplied_word (lines_in self.old.caches) (a % 16) (slice_index (M.Memory.words self.old.memory) a) nearest, supplied_by nearest) }
-        ensures words { M.Memory.words self.new.memory ≡ M.Memory.words self.old.memory }
-        ensures caches { self.new.caches ≡ self.old.caches }
-        ensures report { self.new.report ≡ self.old.report }
-        ensures beside { M.Memory.spare self.new.memory ≡ M.Memory.spare self.old.memory }
-        ensures kept { M.Memory.sound self.new.memory }
-    {
-        match self.caches.nearest(k, a) {
-            Some(q) => {
-                let word = self.caches.line(q, Class::of(a)).word;
-                Ok((word, Supplier::Processor { p: q.number() }))
-            }
-            None => Ok((self.memory.read(a)?, Supplier::Memory)),
-        }
-    }
-
     // Starts a task.
     fn begin(&mut self, p: Processor) -> Answer
         requires { SoundSnooping M.Memory.words M.Memory.sound self.old }
@@ -89,7 +67,7 @@ impl<M: Memory> SnoopingStore<M> {
             self.report = BusReport::quiet();
             return Ok(line.word);
         }
-        let (w, supplier) = self.supplied(k, a)?;
+        let (w, supplier) = supplied(&mut self.memory, &self.caches, k, a)?;
         self.caches.fill(p, a, w);
         self.report = BusReport::bus_read(a, supplier);
         Ok(w)
@@ -220,5 +198,30 @@ impl<M: Memory> VersionStore for SnoopingStore<M> {
             report: _,
         } = self;
         memory
+    }
+}
+
+// The word at a for the task at place k from its supplier, and who that is: the cache of the processor that has the nearest
+// earlier version, else the memory.
+fn supplied<M: Memory>(
+    memory: &mut M,
+    caches: &Caches,
+    k: usize,
+    a: u32,
+) -> Result<(u32, Supplier), Refusal>
+    requires sound { M.Memory.sound memory.old }
+    requires k_in_bounds { k ≤ length (processors_of caches.now) }
+    requires a_in_bounds { a < length (M.Memory.words memory.old) }
+    ensures answer { let nearest = last_that (λ q. is_own (table_of caches.now q a)) (take k (processors_of caches.now)) in result ≡ Ok (supplied_word (lines_in caches.now) (a % 16) (slice_index (M.Memory.words memory.old) a) nearest, supplied_by nearest) }
+    ensures words { M.Memory.words memory.new ≡ M.Memory.words memory.old }
+    ensures beside { M.Memory.spare memory.new ≡ M.Memory.spare memory.old }
+    ensures kept { M.Memory.sound memory.new }
+{
+    match caches.nearest(k, a) {
+        Some(q) => {
+            let word = caches.line(q, Class::of(a)).word;
+            Ok((word, Supplier::Processor { p: q.number() }))
+        }
+        None => Ok((memory.read(a)?, Supplier::Memory)),
     }
 }

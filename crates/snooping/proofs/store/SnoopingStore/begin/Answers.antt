@@ -3,7 +3,7 @@ use Rattle.std.proofs.lemmas.Result.{err_from_is_err_and}
 use Rattle.versions.specs.declared.turn.Turn.TheVariants.{Start}
 use Rattle.versions.specs.Tables.{start_place}
 use Rattle.snooping.specs.Caches.{processors_of, table_of}
-use Rattle.snooping.proofs.Snooped.{took, took-refused, turn-start, ok-start, start-judged}
+use Rattle.snooping.proofs.Snooped.{took, took-refused, turn-start, start-judged}
 use Rattle.snooping.proofs.store.SnoopingStore.begin.Goals as goal
 
 pub returns-in_err-active : goal.returns-in_err-active
@@ -19,6 +19,6 @@ returns g c =
     let m = g.M.Memory in
     let s = c.args.self.now in
     took m.words m.sound m.spare s (Start c.args.p) (Ok c.in_ok-active.active) _
-    (turn-start (m.words s.memory) (processors_of s.caches) s.caches.list s.caches.wide c.in_ok-active.ensures.apart c.requires.fits c.requires.lines s.report c.args.p c.in_ok-active.active
+    (turn-start m.words s c.requires c.in_ok-active.ensures.apart c.args.p c.in_ok-active.active
     (processors_of c.append.new.self) c.append.new.self.list c.quiet-self.result (subst (λ (n : ℕ). n < 4) c.number.ensures.value c.number.ensures.bound)
     c.in_ok-active.ensures.value c.append.ensures.order c.append.ensures.list c.quiet-self.ensures) c.requires.memory refl

@@ -30,6 +30,6 @@ returns g c =
     let m = g.M.Memory in
     let s = c.args.self.now in
     took m.words m.sound m.spare s (Squash c.args.p) (Ok (c.len-active.result - c.in_ok-k.k)) _
-    (turn-squash (m.words s.memory) (processors_of s.caches) s.caches.list s.caches.wide c.in_ok-k.ensures.apart c.requires.fits c.requires.lines s.report c.args.p c.in_ok-k.k
+    (turn-squash m.words s c.requires c.in_ok-k.ensures.apart c.args.p c.in_ok-k.k
     (c.len-active.result - c.in_ok-k.k) (processors_of c.cut.new.self) c.cut.new.self.list c.quiet-self.result c.in_ok-k.ensures.value
     (ap (λ (n : ℕ). n - c.in_ok-k.k) (c.len-active.ensures.value ∙ ap length c.order.ensures)) c.cut.ensures.order c.cut.ensures.lines c.cut.new.self.wide c.quiet-self.ensures) c.requires.memory refl

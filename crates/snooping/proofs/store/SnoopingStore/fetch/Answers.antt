@@ -6,12 +6,11 @@ use Rattle.versions.specs.Tables.{access_place}
 use Rattle.versions.specs.Versions.{is_held, is_own}
 use Rattle.versions.proofs.Judging.{load-agrees, ok-access}
 use Rattle.versions.proofs.Tabling.{placed}
-use Rattle.snooping.specs.declared.caches.Caches.{Caches}
 use Rattle.snooping.specs.declared.line.Line.{Line}
 use Rattle.snooping.specs.declared.report.Supplier.{Supplier}
 use Rattle.snooping.specs.Caches.{lines_in, processors_of, table_of}
-use Rattle.snooping.specs.Grid.{last_that, with_line, relinked}
-use Rattle.snooping.specs.Lines.{version_at, with_loaded}
+use Rattle.snooping.specs.Grid.{last_that}
+use Rattle.snooping.specs.Lines.{version_at}
 use Rattle.snooping.specs.Report.{bus_read, supplied_by}
 use Rattle.snooping.specs.Snooping.{supplied_word}
 use Rattle.snooping.proofs.Snooped.{took, took-refused, turn-load-hit, turn-load-miss}
@@ -35,7 +34,7 @@ returns-then-is_held g c =
     let line = c.line-line.ensures ∙ ap (lines_in s.caches c.args.p) c.of.ensures in
     let version = c.version.ensures ∙ ap (λ (x : Line). version_at x c.args.a) line in
     took m.words m.sound m.spare s (Load c.args.p c.args.a) (Ok c.line-line.result.word) _
-    (turn-load-hit (m.words s.memory) (processors_of s.caches) s.caches.list s.caches.wide c.in_ok-k.ensures.apart c.requires.fits c.requires.lines s.report c.args.p c.args.a c.in_ok-k.k c.line-line.result.word c.quiet-self.result
+    (turn-load-hit m.words s c.requires c.in_ok-k.ensures.apart c.args.p c.args.a c.in_ok-k.k c.line-line.result.word c.quiet-self.result
     (c.in_ok-k.ensures.value ∙ ap (λ (n : ℕ). access_place n (processors_of s.caches) (table_of s.caches) c.args.p c.args.a) c.size.ensures)
     (ap is_held (sym version) ∙ (sym c.is_held.ensures ∙ c.if-is_held.true)) (ap (λ (x : Line). x.word) line) c.quiet-self.ensures) c.requires.memory refl
 
@@ -55,12 +54,10 @@ returns g c =
     let w = c.in_ok-w.w in
     let nearest = last_that (λ (q : ℕ). is_own (table_of s.caches q a)) (take c.in_ok-k.k (processors_of s.caches)) in
     let given : (w, c.in_ok-w.supplier) ≡ (supplied_word (lines_in s.caches) (a % 16) (get_or (m.words s.memory) a 0) nearest, supplied_by nearest) = same_pair _ _ c.in_ok-w.ensures.answer in
-    let same = c.supplied.ensures.caches in
     took m.words m.sound m.spare s (Load c.args.p a) (Ok w) _
-    (turn-load-miss (m.words s.memory) (processors_of s.caches) s.caches.list s.caches.wide c.in_ok-k.ensures.apart c.requires.fits c.requires.lines s.report c.args.p a c.in_ok-k.k w nearest
-    (m.words c.supplied.new.self.memory) (processors_of c.fill.new.self) c.fill.new.self.list c.bus_read-self.result
+    (turn-load-miss m.words s c.requires c.in_ok-k.ensures.apart c.args.p a c.in_ok-k.k w nearest
+    (m.words c.supplied.new.memory) (processors_of c.fill.new.self) c.fill.new.self.list c.bus_read-self.result
     (c.in_ok-k.ensures.value ∙ ap (λ (n : ℕ). access_place n (processors_of s.caches) (table_of s.caches) c.args.p c.args.a) c.size.ensures)
-    (ap is_held (sym version) ∙ (sym c.is_held.ensures ∙ c.if-is_held.false)) refl (ap (λ (x : ℕ × Supplier). x.0) given) c.supplied.ensures.words (c.fill.ensures.order ∙ ap processors_of same)
-    (c.fill.ensures.lines
-    ∙ ap (λ (x : Caches). relinked (processors_of x) a (with_line (lines_in x) c.args.p (a % 16) (with_loaded (lines_in x c.args.p (a % 16)) a w))) same) c.fill.new.self.wide
+    (ap is_held (sym version) ∙ (sym c.is_held.ensures ∙ c.if-is_held.false)) refl (ap (λ (x : ℕ × Supplier). x.0) given) c.supplied.ensures.words c.fill.ensures.order
+    c.fill.ensures.lines c.fill.new.self.wide
     (c.bus_read-self.ensures ∙ ap (λ (x : ℕ × Supplier). bus_read a x.1) given)) c.supplied.ensures.kept c.supplied.ensures.beside

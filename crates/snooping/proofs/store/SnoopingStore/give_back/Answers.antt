@@ -32,7 +32,7 @@ returns g c =
     let held = c.version-own.result.own in
     let own : held ≡ (table_of s.caches c.args.p c.args.a).own = ap (λ (v : Version). v.own) c.version-own.ensures in
     took m.words m.sound m.spare s (Replace c.args.p c.args.a) (Ok n) _
-    (turn-replace (m.words s.memory) (processors_of s.caches) s.caches.list s.caches.wide c.in_ok-replaceable.ensures.apart c.requires.fits c.requires.lines s.report c.args.p c.args.a c.in_ok-replaceable.field-0 n
+    (turn-replace m.words s c.requires c.in_ok-replaceable.ensures.apart c.args.p c.args.a c.in_ok-replaceable.field-0 n
     (m.words c.write_own.new.memory) (processors_of c.end_line.new.self) c.end_line.new.self.list c.written_back-self.result
     (c.in_ok-replaceable.ensures.value ∙ ap (λ (n : ℕ). replace_place n (processors_of s.caches) (table_of s.caches) c.args.p c.args.a) c.size.ensures)
     (c.write_own.ensures.count ∙ ap (λ (o : Option ℕ). cond (is_some o) 1 0) own) (c.write_own.ensures.words ∙ ap (λ (o : Option ℕ). written_to o c.args.a (m.words s.memory)) own)

@@ -33,7 +33,7 @@ returns-then-takes_store g c =
     let test : (own && not (is_some next)) ≡ true = ap (λ (x : Line). is_own (version_at x c.args.a) && not (is_some x.next)) (sym line) ∙ (sym c.takes_store.ensures ∙ c.if-takes_store.true) in
     let parts = hit-parts own next test in
     took m.words m.sound m.spare s (Store c.args.p c.args.a c.args.w) (Ok 0) _
-    (turn-store-hit (m.words s.memory) (processors_of s.caches) s.caches.list s.caches.wide c.in_ok-k.ensures.apart c.requires.fits c.requires.lines s.report c.args.p c.args.a c.args.w c.in_ok-k.k
+    (turn-store-hit m.words s c.requires c.in_ok-k.ensures.apart c.args.p c.args.a c.args.w c.in_ok-k.k
     (processors_of c.store_line.new.self) c.store_line.new.self.list c.quiet-self.result
     (c.in_ok-k.ensures.value ∙ ap (λ (n : ℕ). access_place n (processors_of s.caches) (table_of s.caches) c.args.p c.args.a) c.size.ensures)
     parts.0 parts.1 c.store_line.ensures.order c.store_line.ensures.lines c.store_line.new.self.wide c.quiet-self.ensures) c.requires.memory refl
@@ -71,10 +71,10 @@ returns g c =
     c.invalidated-mask.ensures ∙ ap (λ (j : ℕ). powers (reached (λ q. table q c.args.a) (drop j ps))) (add-one k) in
     let test : (is_own (table c.args.p c.args.a) && not (is_some (lines_in s.caches c.args.p (c.args.a % 16)).next)) ≡ false =
     ap (λ (x : Line). is_own (version_at x c.args.a) && not (is_some x.next)) (sym line) ∙ (sym c.takes_store.ensures ∙ c.if-takes_store.false) in
-    let cut = after-cut (m.words s.memory) (processors_of s.caches) s.caches.list s.caches.wide c.in_ok-k.ensures.apart c.requires.fits c.requires.lines s.report n c.cut_last.new.self.list c.cut_last.ensures.none c.cut_last.ensures.some in
+    let cut = after-cut m.words s c.requires c.in_ok-k.ensures.apart n c.cut_last.new.self.list c.cut_last.ensures.none c.cut_last.ensures.some in
     let mid = lines_in c.cut_last.new.self in
     took m.words m.sound m.spare s (Store c.args.p c.args.a c.args.w) (Ok n) _
-    (turn-store-miss (m.words s.memory) (processors_of s.caches) s.caches.list s.caches.wide c.in_ok-k.ensures.apart c.requires.fits c.requires.lines s.report c.args.p c.args.a c.args.w k n
+    (turn-store-miss m.words s c.requires c.in_ok-k.ensures.apart c.args.p c.args.a c.args.w k n
     c.invalidated-mask.result mid (processors_of c.write.new.self) c.write.new.self.list c.bus_write-self.result
     (c.in_ok-k.ensures.value ∙ ap (λ (n : ℕ). access_place n (processors_of s.caches) (table_of s.caches) c.args.p c.args.a) c.size.ensures)
     test (hit-is table ps k c.args.a n c.squashed-hit.ensures) mask cut.0 cut.1 (c.write.ensures.order ∙ c.cut_last.ensures.order)

@@ -21,6 +21,6 @@ returns g c =
     let s = c.args.self.now in
     let wrote = c.write_back-wrote in
     took m.words m.sound m.spare s (Commit c.args.p) (Ok wrote.result.words) _
-    (turn-commit (m.words s.memory) (processors_of s.caches) s.caches.list s.caches.wide c.in_ok-committable.ensures.apart c.requires.fits c.requires.lines s.report c.args.p c.in_ok-committable.field-0 wrote.result.words wrote.result.last
+    (turn-commit m.words s c.requires c.in_ok-committable.ensures.apart c.args.p c.in_ok-committable.field-0 wrote.result.words wrote.result.last
     (m.words wrote.new.memory) (processors_of c.retire.new.self) c.retire.new.self.list c.written_back-self.result c.in_ok-committable.ensures.value wrote.ensures.count wrote.ensures.last wrote.ensures.words
     c.retire.ensures.order c.retire.ensures.lines c.retire.new.self.wide c.written_back-self.ensures) wrote.ensures.kept wrote.ensures.beside
