@@ -76,7 +76,7 @@ impl<'a, T: Copy> RowList<'a, T> {
     pub fn len(&self) -> usize
         ensures { result ≡ length (content self.now) }
     {
-        self.len
+        self.items().len()
     }
 
     // Ends the list and gives its row back, which begins with the elements.
