@@ -19,7 +19,7 @@ HEAD = """#![tactic(auto)]
 
 use memory::Memory;
 use player::Loading;
-use stores::VersionStore;
+use stores::{SnoopingStore, VersionStore};
 
 """
 
@@ -27,7 +27,7 @@ LOADING = """pub fn loaded<M: Memory>(mut loading: Loading<M>, image: &[u8]) -> 
     requires { M.Memory.sound loading.memory }
 {
     let _ = loading.load(image);
-    let mut store = loading.open_snooping();
+    let mut store = loading.open::<SnoopingStore<M>>();
     let _ = store.start(1);
 MISUSE    store.close()
 }
@@ -36,7 +36,7 @@ MISUSE    store.close()
 CLOSING = """pub fn closed<M: Memory>(loading: Loading<M>) -> M
     requires { M.Memory.sound loading.memory }
 {
-    let mut store = loading.open_snooping();
+    let mut store = loading.open::<SnoopingStore<M>>();
     let _ = store.start(1);
     let memory = store.close();
 MISUSE    memory

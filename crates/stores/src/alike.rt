@@ -28,33 +28,20 @@ pub fn play_on_both<M: Memory, N: Memory>(
     ensures beside { (M.Memory.spare result.0 ≡ M.Memory.spare one) × (N.Memory.spare result.1 ≡ N.Memory.spare other) }
     ensures kept { M.Memory.sound result.0 × N.Memory.sound result.1 }
 {
-    let one = play_snooping(one, turns, snooped);
-    let other = play_buffer(other, turns, buffered);
+    let one = play_on::<SnoopingStore<M>>(one, turns, snooped);
+    let other = play_on::<CentralBuffer<N>>(other, turns, buffered);
     (one, other)
 }
 
-// Plays turns on a snooping store over a memory.
-fn play_snooping<M: Memory>(memory: M, turns: &[Turn], answers: &mut [Answer]) -> M
-    requires { M.Memory.sound memory }
-    ensures answers { answers.new ≡ answers_of (opened (M.Memory.words memory)) (take (turns_played turns.now answers.old) turns.now) ++ drop (turns_played turns.now answers.old) answers.old }
-    ensures words { M.Memory.words result ≡ memory_words (state_after_all (opened (M.Memory.words memory)) (take (turns_played turns.now answers.old) turns.now)) }
-    ensures beside { M.Memory.spare result ≡ M.Memory.spare memory }
-    ensures kept { M.Memory.sound result }
+// Plays turns on a store over a memory, which is opened for them and closed after them.
+fn play_on<S: VersionStore>(memory: S::Below, turns: &[Turn], answers: &mut [Answer]) -> S::Below
+    requires { S.Below.Memory.sound memory }
+    ensures answers { answers.new ≡ answers_of (opened (S.Below.Memory.words memory)) (take (turns_played turns.now answers.old) turns.now) ++ drop (turns_played turns.now answers.old) answers.old }
+    ensures words { S.Below.Memory.words result ≡ memory_words (state_after_all (opened (S.Below.Memory.words memory)) (take (turns_played turns.now answers.old) turns.now)) }
+    ensures beside { S.Below.Memory.spare result ≡ S.Below.Memory.spare memory }
+    ensures kept { S.Below.Memory.sound result }
 {
-    let mut store = SnoopingStore::open(memory);
-    let _ = play_turns(&mut store, turns, answers);
-    store.close()
-}
-
-// Plays turns on a central buffer over a memory.
-fn play_buffer<M: Memory>(memory: M, turns: &[Turn], answers: &mut [Answer]) -> M
-    requires { M.Memory.sound memory }
-    ensures answers { answers.new ≡ answers_of (opened (M.Memory.words memory)) (take (turns_played turns.now answers.old) turns.now) ++ drop (turns_played turns.now answers.old) answers.old }
-    ensures words { M.Memory.words result ≡ memory_words (state_after_all (opened (M.Memory.words memory)) (take (turns_played turns.now answers.old) turns.now)) }
-    ensures beside { M.Memory.spare result ≡ M.Memory.spare memory }
-    ensures kept { M.Memory.sound result }
-{
-    let mut store = CentralBuffer::open(memory);
+    let mut store = S::open(memory);
     let _ = play_turns(&mut store, turns, answers);
     store.close()
 }
