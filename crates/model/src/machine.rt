@@ -1,5 +1,5 @@
 // A store that carries out commands: what it shows of itself, and that only a turn changes it.
-ghost use Rattle.std.specs.Prelude.{◌≡◌, ℕ, Option, Some, None, refl};
+ghost use Rattle.std.specs.Prelude.{◌≡◌, Option, Some, None, refl};
 ghost use Rattle.std.proofs.Common.{ap};
 ghost use Rattle.versions.specs.declared.turn.Turn.{Turn};
 ghost use Rattle.versions.specs.Plain.{word_of};

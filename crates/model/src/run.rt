@@ -1,5 +1,5 @@
 // Lists of commands, each list a whole run: a store is opened over the words, carries the commands out, and is closed.
-ghost use Rattle.std.specs.Prelude.{◌≡◌, ℕ, ◌≤◌, List, ◌++◌, length, drop, Some, None, OnOk, OnErr};
+ghost use Rattle.std.specs.Prelude.{◌≡◌, ◌≤◌, ◌++◌, length, drop, Some, None, OnOk, OnErr};
 ghost use Rattle.memory.specs.Words.{MemorySize};
 ghost use Rattle.versions.specs.Plain.{memory_words};
 ghost use Rattle.snooping.specs.Report.{quiet};

@@ -1,7 +1,7 @@
 // What the programs `play` and `central` do, on any version store over any memory: two files are read, played, and listed.
 #![tactic(auto)]
 
-ghost use Rattle.std.specs.Prelude.{◌≡◌, IfOk, string_bytes, vec_items};
+ghost use Rattle.std.specs.Prelude.{◌≡◌, IfOk, string_bytes};
 ghost use Rattle.played.specs.Played.{listing_played};
 
 use files::read_start;
