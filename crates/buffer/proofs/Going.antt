@@ -1,10 +1,7 @@
 -- Going through the tasks in order: the nearest own word, and tasks that are cut off one after another.
-use Rattle.std.proofs.Common.{◌≡◌, ℕ, zero, suc, ◌+◌, ◌<◌, List, [], ◌∷◌, map, length, get_or, take, Some, None, Option, sym, refl, ap, ◌∙◌, arith}
-use Rattle.std.proofs.lemmas.List.{take_more}
+use Rattle.std.proofs.Common.{◌≡◌, ℕ, zero, suc, ◌<◌, List, [], ◌∷◌, map, length, get_or, Some, None, Option, sym, refl, ap, ◌∙◌, arith}
 use Rattle.versions.specs.declared.version.Version.{Version}
 use Rattle.versions.specs.Versions.{or_earlier, nearest_own}
-use Rattle.versions.specs.Tables.{Table, without, without_all}
-use Rattle.versions.proofs.Fits.{without_all-push}
 
 -- the own word found is the last one
 pub nearest_from : (f : ℕ → Version) (ps : List ℕ) (r : Option ℕ)

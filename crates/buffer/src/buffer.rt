@@ -2,8 +2,7 @@
 // the first row or word changes.
 ghost use Rattle.std.specs.Prelude.{◌≡◌, ℕ, ◌+◌, ◌<◌, length, take, Ok, slice_index};
 ghost use Rattle.versions.specs.declared.turn.Turn.TheVariants.{Start, Load, Store, Squash, Commit, Replace};
-ghost use Rattle.buffer.specs.Buffers.{plain_in, SoundBuffer};
-ghost use Rattle.versions.specs.Plain.{answer_of, state_after};
+ghost use Rattle.buffer.specs.Buffers.{plain_in, SoundBuffer, Took};
 ghost use Rattle.buffer.specs.Tasks.{versions_at};
 ghost use Rattle.versions.specs.Versions.{seen_by};
 
@@ -39,10 +38,7 @@ impl<M: Memory> CentralBuffer<M> {
     // Starts a task.
     fn begin(&mut self, p: Processor) -> Answer
         requires { SoundBuffer M.Memory.words M.Memory.sound self.old }
-        ensures answer { result ≡ answer_of (plain_in M.Memory.words self.old) (Start p) }
-        ensures after { plain_in M.Memory.words self.new ≡ state_after (plain_in M.Memory.words self.old) (Start p) }
-        ensures beside { M.Memory.spare self.new.memory ≡ M.Memory.spare self.old.memory }
-        ensures kept { SoundBuffer M.Memory.words M.Memory.sound self.new }
+        ensures { Took M.Memory.words M.Memory.sound M.Memory.spare self.old (Start p) result self.new }
     {
         // A processor's number is below 4, so that no turn is refused for it.
         let _ = p.number();
@@ -54,10 +50,7 @@ impl<M: Memory> CentralBuffer<M> {
     // Loads.
     fn fetch(&mut self, p: Processor, a: u32) -> Answer
         requires { SoundBuffer M.Memory.words M.Memory.sound self.old }
-        ensures answer { result ≡ answer_of (plain_in M.Memory.words self.old) (Load p a) }
-        ensures after { plain_in M.Memory.words self.new ≡ state_after (plain_in M.Memory.words self.old) (Load p a) }
-        ensures beside { M.Memory.spare self.new.memory ≡ M.Memory.spare self.old.memory }
-        ensures kept { SoundBuffer M.Memory.words M.Memory.sound self.new }
+        ensures { Took M.Memory.words M.Memory.sound M.Memory.spare self.old (Load p a) result self.new }
     {
         let k = self.tasks.access(self.memory.size(), p, a)?;
         let w = self.seen(k, a)?;
@@ -69,10 +62,7 @@ impl<M: Memory> CentralBuffer<M> {
     // Stores.
     fn put(&mut self, p: Processor, a: u32, w: u32) -> Answer
         requires { SoundBuffer M.Memory.words M.Memory.sound self.old }
-        ensures answer { result ≡ answer_of (plain_in M.Memory.words self.old) (Store p a w) }
-        ensures after { plain_in M.Memory.words self.new ≡ state_after (plain_in M.Memory.words self.old) (Store p a w) }
-        ensures beside { M.Memory.spare self.new.memory ≡ M.Memory.spare self.old.memory }
-        ensures kept { SoundBuffer M.Memory.words M.Memory.sound self.new }
+        ensures { Took M.Memory.words M.Memory.sound M.Memory.spare self.old (Store p a w) result self.new }
     {
         let k = self.tasks.access(self.memory.size(), p, a)?;
         let active = self.tasks.order().len();
@@ -86,10 +76,7 @@ impl<M: Memory> CentralBuffer<M> {
     // Squashes.
     fn cut(&mut self, p: Processor) -> Answer
         requires { SoundBuffer M.Memory.words M.Memory.sound self.old }
-        ensures answer { result ≡ answer_of (plain_in M.Memory.words self.old) (Squash p) }
-        ensures after { plain_in M.Memory.words self.new ≡ state_after (plain_in M.Memory.words self.old) (Squash p) }
-        ensures beside { M.Memory.spare self.new.memory ≡ M.Memory.spare self.old.memory }
-        ensures kept { SoundBuffer M.Memory.words M.Memory.sound self.new }
+        ensures { Took M.Memory.words M.Memory.sound M.Memory.spare self.old (Squash p) result self.new }
     {
         let k = self.tasks.squashable(p)?;
         let active = self.tasks.order().len();
@@ -100,10 +87,7 @@ impl<M: Memory> CentralBuffer<M> {
     // Replaces.
     fn give_back(&mut self, p: Processor, a: u32) -> Answer
         requires { SoundBuffer M.Memory.words M.Memory.sound self.old }
-        ensures answer { result ≡ answer_of (plain_in M.Memory.words self.old) (Replace p a) }
-        ensures after { plain_in M.Memory.words self.new ≡ state_after (plain_in M.Memory.words self.old) (Replace p a) }
-        ensures beside { M.Memory.spare self.new.memory ≡ M.Memory.spare self.old.memory }
-        ensures kept { SoundBuffer M.Memory.words M.Memory.sound self.new }
+        ensures { Took M.Memory.words M.Memory.sound M.Memory.spare self.old (Replace p a) result self.new }
     {
         self.tasks.replaceable(self.memory.size(), p, a)?;
         let own = self.tasks.version(p, a).own;
@@ -115,10 +99,7 @@ impl<M: Memory> CentralBuffer<M> {
     // Commits.
     fn retire(&mut self, p: Processor) -> Answer
         requires { SoundBuffer M.Memory.words M.Memory.sound self.old }
-        ensures answer { result ≡ answer_of (plain_in M.Memory.words self.old) (Commit p) }
-        ensures after { plain_in M.Memory.words self.new ≡ state_after (plain_in M.Memory.words self.old) (Commit p) }
-        ensures beside { M.Memory.spare self.new.memory ≡ M.Memory.spare self.old.memory }
-        ensures kept { SoundBuffer M.Memory.words M.Memory.sound self.new }
+        ensures { Took M.Memory.words M.Memory.sound M.Memory.spare self.old (Commit p) result self.new }
     {
         self.tasks.committable(p)?;
         let wrote = write_back(&mut self.memory, &self.tasks, p);

@@ -84,8 +84,6 @@ impl TaskTable for Tasks {
 
     ghost table = { table_of };
 
-    ghost good = { λ _. Unit {0} };
-
     fn order(&self) -> &Order {
         &self.order
     }

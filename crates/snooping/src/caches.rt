@@ -185,8 +185,6 @@ impl TaskTable for Caches {
 
     ghost table = { table_of };
 
-    ghost good = { λ _. Unit {0} };
-
     fn order(&self) -> &Order {
         &self.order
     }

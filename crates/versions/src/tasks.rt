@@ -18,26 +18,20 @@ pub trait TaskTable {
     // The version of each processor's task at each address.
     ghost table: { Self → Table };
 
-    // What ties the versions to where they are kept.
-    ghost good: { Self → Type 0 };
-
     // The order of the tasks.
     fn order(&self) -> &Order
         ensures { result.now ≡ processors self.now };
 
     // p's version of a.
     fn version(&self, p: Processor, a: u32) -> Version
-        requires { good self.now }
         ensures { result ≡ table self.now p a };
 
     // The address of class c that p holds.
     fn held(&self, p: Processor, c: Class) -> Option<u32>
-        requires { good self.now }
         ensures { HeldIn (table self.now p) c result };
 
     // Whether p holds another address of a's class.
     fn class_taken(&self, p: Processor, a: u32) -> bool
-        requires { good self.now }
         ensures { (n : ℕ) → Fitting n (processors self.now) (table self.now) → result ≡ holds_class (task_by (table self.now) p) a n }
     {
         self.held(p, Class::of(a)).is_some_and(|b| b != a)
@@ -46,7 +40,6 @@ pub trait TaskTable {
     // How many of the tasks from place k on a store to a squashes: the oldest with a mark that no own word of a task
     // between hides, and all after it.
     fn squashed(&self, k: usize, a: u32) -> usize
-        requires { good self.now }
         ensures { result ≡ squashed_by (map (λ q. table self.now q a) (drop k (processors self.now))) }
     {
         let n = self.order().len();
@@ -84,8 +77,7 @@ pub trait TaskTable {
 
     // The place of p's task, unless p may not load or store at a, in a memory of n words.
     fn access(&self, n: u32, p: Processor, a: u32) -> Result<usize, Refusal>
-        requires good { good self.now }
-        requires fitting { Fitting n (processors self.now) (table self.now) }
+        requires { Fitting n (processors self.now) (table self.now) }
         ensures value { result ≡ access_place n (processors self.now) (table self.now) p a }
         ensures apart { Apart (processors self.now) }
     {
@@ -123,7 +115,6 @@ pub trait TaskTable {
 
     // The place of p's task, unless p may not replace a, in a memory of n words.
     fn replaceable(&self, n: u32, p: Processor, a: u32) -> Result<usize, Refusal>
-        requires { good self.now }
         ensures value { result ≡ replace_place n (processors self.now) (table self.now) p a }
         ensures apart { Apart (processors self.now) }
     {

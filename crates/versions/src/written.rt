@@ -57,7 +57,6 @@ pub fn write_own<M: Memory>(memory: &mut M, a: u32, own: Option<u32>) -> u32
 // Writes the own words of p's task to memory, class by class.
 pub fn write_back<M: Memory, T: TaskTable>(memory: &mut M, tasks: &T, p: Processor) -> WrittenBack
     requires sound { M.Memory.sound memory.old }
-    requires good { T.TaskTable.good tasks.now }
     requires fitting { Fitting (length (M.Memory.words memory.old)) (T.TaskTable.processors tasks.now) (T.TaskTable.table tasks.now) }
     ensures count { result.words ≡ count_below (λ a. is_own (T.TaskTable.table tasks.now p a)) (length (M.Memory.words memory.old)) }
     ensures last { result.last ≡ last_own (T.TaskTable.table tasks.now p) (length (M.Memory.words memory.old)) 16 }
@@ -84,7 +83,6 @@ fn write_class<M: Memory, T: TaskTable>(
     c: Class,
 ) -> Option<u32>
     requires sound { M.Memory.sound memory.old }
-    requires good { T.TaskTable.good tasks.now }
     requires fitting { Fitting (length (M.Memory.words memory.old)) (T.TaskTable.processors tasks.now) (T.TaskTable.table tasks.now) }
     ensures class { (ws : List ℕ) → M.Memory.words memory.old ≡ laid_over_all (up_to_class (T.TaskTable.table tasks.now p) c) ws → ClassWritten (T.TaskTable.table tasks.now p) c ws (M.Memory.words memory.new) (if is_some result then 1 else 0) }
     ensures address { result ≡ of_class (λ a. is_own (T.TaskTable.table tasks.now p a)) c (length (M.Memory.words memory.old)) }
