@@ -40,8 +40,6 @@ impl<M: Memory> CentralBuffer<M> {
         requires { SoundBuffer M.Memory.words M.Memory.sound self.old }
         ensures { Took M.Memory.words M.Memory.sound M.Memory.spare self.old (Start p) result self.new }
     {
-        // A processor's number is below 4, so that no turn is refused for it.
-        let _ = p.number();
         let active = self.tasks.startable(p)?;
         self.tasks.append(p);
         Ok(active as u32)

@@ -47,8 +47,6 @@ impl<M: Memory> SnoopingStore<M> {
         requires { SoundSnooping M.Memory.words M.Memory.sound self.old }
         ensures { Took M.Memory.words M.Memory.sound M.Memory.spare self.old (Start p) result self.new }
     {
-        // A processor's number is below 4.
-        let _ = p.number();
         let active = self.caches.startable(p)?;
         self.caches.append(p);
         self.report = BusReport::quiet();

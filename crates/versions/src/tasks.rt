@@ -1,6 +1,6 @@
 // The active tasks of a version store: their order, and each one's version at each address. What follows from those two
 // alone is written and proved here, once for every store that keeps them.
-ghost use Rattle.std.specs.Prelude.{◌≡◌, ℕ, ◌≤◌, List, map, drop, IfOk};
+ghost use Rattle.std.specs.Prelude.{◌≡◌, ℕ, ◌<◌, ◌≤◌, List, map, drop, IfOk};
 ghost use Rattle.versions.specs.Orders.{Apart};
 ghost use Rattle.versions.specs.Plain.{holds_class};
 ghost use Rattle.versions.specs.Tables.{Table, task_by, Fitting, HeldIn, start_place, active_place, access_place, squash_place, commit_place, replace_place};
@@ -58,6 +58,7 @@ pub trait TaskTable {
     // The place that a new task on p takes, unless p has one already.
     fn startable(&self, p: Processor) -> Result<usize, Refusal>
         ensures value { result ≡ start_place (processors self.now) p }
+        ensures processor { p < 4 }
         ensures bound { IfOk result (λ k. k ≤ 4) }
         ensures apart { Apart (processors self.now) }
     {
