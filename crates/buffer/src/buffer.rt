@@ -91,7 +91,7 @@ impl<M: Memory> CentralBuffer<M> {
         let own = self.tasks.version(p, a).own;
         let wrote = write_own(&mut self.memory, a, own);
         self.tasks.put(p, a, Version::none());
-        Ok(wrote)
+        Ok(wrote.words)
     }
 
     // Commits.

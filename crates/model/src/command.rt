@@ -1,4 +1,4 @@
-// Commands and replies as C sees them: rows of numbers, by which C tells commands apart and is told refusals and their likes.
+// Commands and replies as C sees them: rows of numbers. C has no enums with data, so a command and a refusal are numbers there.
 ghost use Rattle.std.specs.Prelude.{◌≡◌};
 ghost use Rattle.model.specs.Commands.{asked_of, answer_reply, number_reply, nothing, line_reply, report_reply};
 

@@ -49,11 +49,7 @@ fn turns_and_answers_are_held_alike(rt: HostRuntime) -> Result<(), Fail> {
     let mut turn_row = [Turn::Start { p: 0 }; 2];
     let mut turns = RowList::new(&mut turn_row);
     assert_eq!(rt; turns.push(Turn::Load { p: 3, a: 5 }), Ok(()));
-    let Some(Turn::Load { p, a }) = turns.get(0) else {
-        return Err(Fail::new("no load"));
-    };
-    assert_eq!(rt; p, 3);
-    assert_eq!(rt; a, 5);
+    assert_eq!(rt; turns.get(0), Some(Turn::Load { p: 3, a: 5 }));
     let mut answer_row: [Answer; 2] = [Ok(0); 2];
     let mut answers = RowList::new(&mut answer_row);
     assert_eq!(rt; answers.push(Err(Refusal::NoTask)), Ok(()));

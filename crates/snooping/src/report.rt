@@ -49,7 +49,7 @@ impl Supplier {
     }
 }
 
-// All five values are what users see, of every kind. A report is made by one of four functions only.
+// All five values are what users see, of every kind. This crate makes reports by four functions only.
 #[derive(Clone, Copy, PartialEq, Debug)]
 pub struct BusReport {
     pub kind: BusKind,

@@ -40,7 +40,7 @@ impl LineState {
         matches!(self, LineState::Stored | LineState::Both)
     }
 
-    // Goes on to the next state, in place. The table of states and events stands here as a whole, a pair in each line.
+    // Goes on to the next state, in place. The table of states and events stands here as a whole.
     pub(crate) fn step(&mut self, event: LineEvent)
         ensures { self.new ≡ next_state self.old event }
     {

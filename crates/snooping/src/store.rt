@@ -14,8 +14,7 @@ use crate::line::Line;
 use crate::report::{BusReport, Supplier};
 use memory::Memory;
 use versions::{
-    Answer, Class, Processor, Refusal, TaskTable, Turn, VersionStore, WrittenBack, write_back,
-    write_own,
+    Answer, Class, Processor, Refusal, TaskTable, Turn, VersionStore, write_back, write_own,
 };
 
 pub struct SnoopingStore<M> {
@@ -111,10 +110,7 @@ impl<M: Memory> SnoopingStore<M> {
     {
         self.caches.replaceable(self.memory.size(), p, a)?;
         let own = self.caches.version(p, a).own;
-        let wrote = WrittenBack {
-            words: write_own(&mut self.memory, a, own),
-            last: own.and(Some(a)),
-        };
+        let wrote = write_own(&mut self.memory, a, own);
         self.caches.end_line(p, a);
         self.report = BusReport::written_back(wrote);
         Ok(wrote.words)

@@ -91,17 +91,16 @@ fn in_numbers(report: BusReport) -> Report {
 
 // Line c of p as the rows have it: invalid, if they have none.
 fn line_of(lines: &[Row], p: u32, c: u32) -> Line {
-    for row in lines {
-        if row.p == p && row.line.tag % 16 == c {
-            return row.line;
-        }
-    }
-    Line {
+    let invalid = Line {
         state: LineState::Invalid,
         tag: 0,
         word: 0,
         next: None,
-    }
+    };
+    lines
+        .iter()
+        .find(|row| row.p == p && row.line.tag % 16 == c)
+        .map_or(invalid, |row| row.line)
 }
 
 // Holds the report and all 64 lines to what is expected, and every row of it to its line.

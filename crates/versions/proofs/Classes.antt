@@ -341,19 +341,3 @@ module _ (at : ℕ → Version) (c n : ℕ) (one : (a b : ℕ) → is_held (at a
           let x = held-some (λ d. is_own (at d)) c n a e in
           let same : a ≡ b = one a b (own_held a x.1) h.1 (x.2 ∙ sym h.0) in
           absurd (true≢false (sym x.1 ∙ (ap (λ d. is_own (at d)) same ∙ none)))
-
-  -- the held address of the class, with or without an own word
-  pub class-address-none : (b : ℕ) → HeldIn at c (Some b) → ((a : ℕ) → is_held (at a) ≡ true → a < n) → is_own (at b) ≡ false → None ≡ of_class (λ a. is_own (at a)) c n
-  class-address-none b h inside e = sym (ap (λ (t : Bool). cond t (Some b) None) e) ∙ class-address (Some b) h inside
-
-  pub class-address-some : (b : ℕ) → HeldIn at c (Some b) → ((a : ℕ) → is_held (at a) ≡ true → a < n) → is_own (at b) ≡ true → Some b ≡ of_class (λ a. is_own (at a)) c n
-  class-address-some b h inside e = sym (ap (λ (t : Bool). cond t (Some b) None) e) ∙ class-address (Some b) h inside
-
--- whether one was written
-pub none_written : (n : ℕ) (t : Bool) → n ≡ cond t 1 0 → n ≡ 0 → t ≡ false
-none_written n true e z = absurd (omega (arith, e, z))
-none_written n false e z = refl
-
-pub one_written : (n : ℕ) (t : Bool) → n ≡ cond t 1 0 → (n ≡ 0 → ⊥) → t ≡ true
-one_written n true e z = refl
-one_written n false e z = absurd (z e)

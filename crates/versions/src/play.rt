@@ -42,6 +42,7 @@ pub fn play_turns<S: VersionStore>(
     ensures beside { S.VersionStore.spare store.new ≡ S.VersionStore.spare store.old }
     ensures kept { S.VersionStore.sound store.new }
 {
+    // By place: after a loop over `answers.iter_mut().zip(turns)` a proof would know nothing of what is written.
     for (i, turn) in turns.iter().enumerate() {
         if i >= answers.len() {
             return Err(AnswersFull { at: i });

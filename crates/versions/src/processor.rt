@@ -6,7 +6,7 @@ use crate::refusal::Refusal;
 use std::marker::Model;
 
 // A processor: a number below 4.
-#[derive(Clone, Copy)]
+#[derive(Clone, Copy, PartialEq, Debug)]
 pub struct Processor {
     number: u32,
 }
@@ -62,7 +62,7 @@ impl TryFrom<u32> for Processor {
 }
 
 // A class of addresses: those that leave the same remainder by 16.
-#[derive(Clone, Copy)]
+#[derive(Clone, Copy, PartialEq, Debug)]
 pub struct Class {
     remainder: u32,
 }

@@ -1,6 +1,6 @@
 // What a version store is: anything that answers every turn as the plain store of specs/Plain.antt does. Whatever is
 // built above is proved once, against these contracts, and holds for every version store over every memory.
-ghost use Rattle.std.specs.Prelude.{◌≡◌, ℕ, List, length};
+ghost use Rattle.std.specs.Prelude.{◌≡◌, ℕ, ◌≤◌, List, length};
 ghost use Rattle.versions.specs.declared.turn.Turn.{Turn};
 ghost use Rattle.versions.specs.declared.turn.Turn.TheVariants.{Start, Load, Store, Squash, Commit, Replace};
 ghost use Rattle.versions.specs.Plain.{Plain, opened, memory_words, active_tasks, answer_of, state_after, word_of};
@@ -56,7 +56,8 @@ pub trait VersionStore: Sized {
     // The number of active tasks.
     fn tasks(&self) -> u32
         requires { sound self.now }
-        ensures { result ≡ active_tasks (plain self.now) };
+        ensures value { result ≡ active_tasks (plain self.now) }
+        ensures bound { result ≤ 4 };
 
     // The memory's number of words.
     fn size(&self) -> u32

@@ -43,6 +43,7 @@ pub trait TaskTable {
         ensures { result ≡ squashed_by (map (λ q. table self.now q a) (drop k (processors self.now))) }
     {
         let n = self.order().len();
+        // By place, since the answer counts from there. (Over `enumerate().skip(k)` the loop's invariant has no place to name.)
         for i in k..n {
             let version = self.version(self.order().at(i), a);
             if version.mark {

@@ -21,12 +21,12 @@ impl Turn {
         ensures { result ≡ processor_of self }
     {
         match self {
-            Turn::Start { p } => p,
-            Turn::Load { p, a: _ } => p,
-            Turn::Store { p, a: _, w: _ } => p,
-            Turn::Squash { p } => p,
-            Turn::Commit { p } => p,
-            Turn::Replace { p, a: _ } => p,
+            Turn::Start { p }
+            | Turn::Load { p, .. }
+            | Turn::Store { p, .. }
+            | Turn::Squash { p }
+            | Turn::Commit { p }
+            | Turn::Replace { p, .. } => p,
         }
     }
 }

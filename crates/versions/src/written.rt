@@ -1,5 +1,5 @@
 // Writing own words of a task to memory.
-ghost use Rattle.std.specs.Prelude.{◌≡◌, ℕ, ◌+◌, ◌<◌, List, length, is_some, if◌then◌else◌};
+ghost use Rattle.std.specs.Prelude.{◌≡◌, ℕ, ◌+◌, ◌^◌, ◌<◌, ◌≤◌, List, length, is_some, if◌then◌else◌, Some, None};
 ghost use Rattle.memory.specs.Client.{count_below};
 ghost use Rattle.versions.specs.Plain.{laid_over_all, written_to};
 ghost use Rattle.versions.specs.Tables.{Fitting, up_to_class, of_class, or_else, last_own, ClassWritten};
@@ -9,8 +9,8 @@ use crate::processor::{Class, Processor};
 use crate::tasks::TaskTable;
 use memory::Memory;
 
-// What a commit wrote.
-#[derive(Clone, Copy)]
+// What a commit or a replacement wrote.
+#[derive(Clone, Copy, PartialEq, Debug)]
 pub struct WrittenBack {
     // How many own words.
     pub words: u32,
@@ -19,27 +19,36 @@ pub struct WrittenBack {
 }
 
 impl WrittenBack {
-    // With the own word at an address, if there was one.
-    fn and(self, address: Option<u32>) -> WrittenBack
-        requires { self.words < 16 }
-        ensures count { result.words ≡ self.words + (if is_some address then 1 else 0) }
-        ensures last { result.last ≡ or_else address self.last }
+    // Nothing yet.
+    fn nothing() -> WrittenBack
+        ensures words { result.words ≡ 0 }
+        ensures last { result.last ≡ None }
     {
-        match address {
-            Some(_) => WrittenBack {
-                words: self.words + 1,
-                last: address,
-            },
-            None => self,
+        WrittenBack {
+            words: 0,
+            last: None,
+        }
+    }
+
+    // And then this.
+    fn and(self, later: WrittenBack) -> WrittenBack
+        requires { self.words + later.words < 2 ^ 32 }
+        ensures words { result.words ≡ self.words + later.words }
+        ensures last { result.last ≡ or_else later.last self.last }
+    {
+        WrittenBack {
+            words: self.words + later.words,
+            last: later.last.or(self.last),
         }
     }
 }
 
-// Writes an own word of address a to memory, if there is one, and gives how many it wrote.
-pub fn write_own<M: Memory>(memory: &mut M, a: u32, own: Option<u32>) -> u32
+// Writes an own word of address a to memory, if there is one.
+pub fn write_own<M: Memory>(memory: &mut M, a: u32, own: Option<u32>) -> WrittenBack
     requires sound { M.Memory.sound memory.old }
     requires a_in_bounds { a < length (M.Memory.words memory.old) }
-    ensures count { result ≡ (if is_some own then 1 else 0) }
+    ensures count { result.words ≡ (if is_some own then 1 else 0) }
+    ensures last { result.last ≡ (if is_some own then Some a else None) }
     ensures words { M.Memory.words memory.new ≡ written_to own a (M.Memory.words memory.old) }
     ensures beside { M.Memory.spare memory.new ≡ M.Memory.spare memory.old }
     ensures kept { M.Memory.sound memory.new }
@@ -48,9 +57,12 @@ pub fn write_own<M: Memory>(memory: &mut M, a: u32, own: Option<u32>) -> u32
         // Never refused: a is an address of the memory.
         Some(w) => {
             let _ = memory.write(a, w);
-            1
+            WrittenBack {
+                words: 1,
+                last: Some(a),
+            }
         }
-        None => 0,
+        None => WrittenBack::nothing(),
     }
 }
 
@@ -64,34 +76,32 @@ pub fn write_back<M: Memory, T: TaskTable>(memory: &mut M, tasks: &T, p: Process
     ensures beside { M.Memory.spare memory.new ≡ M.Memory.spare memory.old }
     ensures kept { M.Memory.sound memory.new }
 {
-    let mut wrote = WrittenBack {
-        words: 0,
-        last: None,
-    };
+    let mut wrote = WrittenBack::nothing();
     for c in 0..16 {
         wrote = wrote.and(write_class(memory, tasks, p, Class::of(c)));
     }
     wrote
 }
 
-// Writes the own word that p's task has of class c to memory, if it has one, and gives its address. What the classes
+// Writes the own word that p's task has of class c to memory, if it has one. What the classes
 // before c have written is in memory already.
 fn write_class<M: Memory, T: TaskTable>(
     memory: &mut M,
     tasks: &T,
     p: Processor,
     c: Class,
-) -> Option<u32>
+) -> WrittenBack
     requires sound { M.Memory.sound memory.old }
     requires fitting { Fitting (length (M.Memory.words memory.old)) (T.TaskTable.processors tasks.now) (T.TaskTable.table tasks.now) }
-    ensures class { (ws : List ℕ) → M.Memory.words memory.old ≡ laid_over_all (up_to_class (T.TaskTable.table tasks.now p) c) ws → ClassWritten (T.TaskTable.table tasks.now p) c ws (M.Memory.words memory.new) (if is_some result then 1 else 0) }
-    ensures address { result ≡ of_class (λ a. is_own (T.TaskTable.table tasks.now p a)) c (length (M.Memory.words memory.old)) }
+    ensures class { (ws : List ℕ) → M.Memory.words memory.old ≡ laid_over_all (up_to_class (T.TaskTable.table tasks.now p) c) ws → ClassWritten (T.TaskTable.table tasks.now p) c ws (M.Memory.words memory.new) result.words }
+    ensures bound { result.words ≤ 1 }
+    ensures address { result.last ≡ of_class (λ a. is_own (T.TaskTable.table tasks.now p a)) c (length (M.Memory.words memory.old)) }
     ensures size { length (M.Memory.words memory.new) ≡ length (M.Memory.words memory.old) }
     ensures beside { M.Memory.spare memory.new ≡ M.Memory.spare memory.old }
     ensures kept { M.Memory.sound memory.new }
 {
-    let a = tasks.held(p, c)?;
-    let own = tasks.version(p, a).own;
-    let wrote = write_own(memory, a, own);
-    if wrote == 0 { None } else { Some(a) }
+    match tasks.held(p, c) {
+        Some(a) => write_own(memory, a, tasks.version(p, a).own),
+        None => WrittenBack::nothing(),
+    }
 }

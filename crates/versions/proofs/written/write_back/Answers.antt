@@ -1,9 +1,9 @@
-use Rattle.std.proofs.Common.{◌≡◌, ℕ, ◌+◌, cond, length, is_some, sym, refl, ap, ◌∙◌, subst, arith}
+use Rattle.std.proofs.Common.{◌≡◌, ℕ, ◌+◌, length, sym, refl, ap, ◌∙◌, subst, arith}
 use Rattle.memory.specs.Client.{count_below}
 use Rattle.versions.specs.Plain.{laid_over_all}
 use Rattle.versions.specs.Tables.{Fitting, up_to_class, of_class, last_own, ClassWritten}
 use Rattle.versions.specs.Versions.{is_own}
-use Rattle.versions.proofs.Classes.{words-none, count_none, words-all, count-all, last_on, one_at_most}
+use Rattle.versions.proofs.Classes.{words-none, count_none, words-all, count-all, last_on}
 use Rattle.versions.proofs.Holding.{length-laid_over_all}
 use Rattle.versions.proofs.written.write_back.Goals as goal
 
@@ -11,7 +11,7 @@ pub loop-c-init : goal.loop-c-init
 loop-c-init g c =
     let ws = g.M.Memory.words c.args.memory.now in
     let at = g.T.TaskTable.table c.args.tasks.now c.args.p in
-    (c.requires.sound, sym (words-none at ws), sym (count_none at (length ws)), omega arith, refl, refl)
+    (c.requires.sound, sym (words-none at ws), c.nothing-wrote.ensures.words ∙ sym (count_none at (length ws)), omega (arith, c.nothing-wrote.ensures.words), c.nothing-wrote.ensures.last, refl)
 
 pub write_class-requires-clause-fitting : goal.write_class-requires-clause-fitting
 write_class-requires-clause-fitting g c =
@@ -25,11 +25,12 @@ pub loop-c-preserved : goal.loop-c-preserved
 loop-c-preserved g c =
     let ws = g.M.Memory.words c.args.memory.now in
     let at = g.T.TaskTable.table c.args.tasks.now c.args.p in
-    let o = c.write_class.result in
+    let o = c.write_class.result.last in
+    let n = c.write_class.result.words in
     let vs = g.M.Memory.words c.write_class.new.memory in
     let class : c.of.result ≡ c.loop-c.c = omega (arith, c.of.ensures) in
-    let law : ClassWritten at c.loop-c.c ws vs (cond (is_some o) 1 0) =
-    subst (λ (k : ℕ). ClassWritten at k ws vs (cond (is_some o) 1 0)) class
+    let law : ClassWritten at c.loop-c.c ws vs n =
+    subst (λ (k : ℕ). ClassWritten at k ws vs n) class
     (c.write_class.ensures.class ws (c.loop-c.invariant.1 ∙ ap (λ (k : ℕ). laid_over_all (up_to_class at k) ws) (sym class))) in
     let long : length (g.M.Memory.words c.loop-c.memory) ≡ length ws = ap length c.loop-c.invariant.1 ∙ length-laid_over_all (up_to_class at c.loop-c.c) ws in
     let address : o ≡ of_class (λ a. is_own (at a)) c.loop-c.c (length ws) =
@@ -37,8 +38,8 @@ loop-c-preserved g c =
     ∙ ap (of_class (λ a. is_own (at a)) c.loop-c.c) long) in (
       c.write_class.ensures.kept,
       law.words,
-      c.and-wrote.ensures.count ∙ (ap (λ (n : ℕ). n + cond (is_some o) 1 0) c.loop-c.invariant.2 ∙ sym law.count),
-      omega (arith, c.and-wrote.ensures.count, one_at_most (cond (is_some o) 1 0) (is_some o) refl, c.loop-c.invariant.3),
+      c.and-wrote.ensures.words ∙ (ap (λ (k : ℕ). k + n) c.loop-c.invariant.2 ∙ sym law.count),
+      omega (arith, c.and-wrote.ensures.words, c.write_class.ensures.bound, c.loop-c.invariant.3),
       last_on at (length ws) c.loop-c.c o c.loop-c.wrote.last c.and-wrote.result.last address c.loop-c.invariant.4 c.and-wrote.ensures.last,
       c.write_class.ensures.beside ∙ c.loop-c.invariant.5,
     )

@@ -30,7 +30,7 @@ returns g c =
     let table = table_of b.tasks in
     let place = c.in_ok-replaceable.ensures.value ∙ ap (λ (n : ℕ). replace_place n ps table c.args.p c.args.a) c.size.ensures in
     let own : c.version-own.result.own ≡ (table c.args.p c.args.a).own = ap (λ (v : Version). v.own) c.version-own.ensures in
-    let law = serve-replace ws ps table c.in_ok-replaceable.ensures.apart c.requires.fits c.args.p c.args.a c.in_ok-replaceable.field-0 c.write_own-wrote.result
+    let law = serve-replace ws ps table c.in_ok-replaceable.ensures.apart c.requires.fits c.args.p c.args.a c.in_ok-replaceable.field-0 c.write_own-wrote.result.words
     (g.M.Memory.words c.write_own-wrote.new.memory) c.put.new.self.order (table_of c.put.new.self) place
     (c.write_own-wrote.ensures.count ∙ ap (λ (o : Option ℕ). cond (is_some o) 1 0) own)
     (c.write_own-wrote.ensures.words ∙ ap (λ (o : Option ℕ). written_to o c.args.a ws) own)

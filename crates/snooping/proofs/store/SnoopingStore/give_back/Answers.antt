@@ -1,5 +1,4 @@
 use Rattle.std.proofs.Common.{◌≡◌, ℕ, cond, length, is_some, Some, None, Ok, Err, Option, refl, ap, ◌∙◌}
-use Rattle.std.specs.Option.{option_and}
 use Rattle.std.proofs.lemmas.Result.{err_from_is_err_and}
 use Rattle.versions.specs.declared.turn.Turn.TheVariants.{Replace}
 use Rattle.versions.specs.declared.version.Version.{Version}
@@ -12,7 +11,7 @@ use Rattle.snooping.proofs.Snooped.{took, took-refused, turn-replace}
 use Rattle.snooping.proofs.store.SnoopingStore.give_back.Goals as goal
 
 -- the report of a replacement, which writes one word or none
-given-back : (own : Option ℕ) (a : ℕ) → written_last (option_and own (Some a)) (cond (is_some own) 1 0) ≡ cond (is_some own) (written_back a 1) quiet
+given-back : (own : Option ℕ) (a : ℕ) → written_last (cond (is_some own) (Some a) None) (cond (is_some own) 1 0) ≡ cond (is_some own) (written_back a 1) quiet
 given-back None a = refl
 given-back (Some w) a = refl
 
@@ -28,16 +27,16 @@ pub returns : goal.returns
 returns g c =
     let m = g.M.Memory in
     let s = c.args.self.now in
-    let n = c.write_own.result in
+    let n = c.write_own-wrote.result.words in
     let held = c.version-own.result.own in
     let own : held ≡ (table_of s.caches c.args.p c.args.a).own = ap (λ (v : Version). v.own) c.version-own.ensures in
     took m.words m.sound m.spare s (Replace c.args.p c.args.a) (Ok n) _
     (turn-replace m.words s c.requires c.in_ok-replaceable.ensures.apart c.args.p c.args.a c.in_ok-replaceable.field-0 n
-    (m.words c.write_own.new.memory) (processors_of c.end_line.new.self) c.end_line.new.self.list c.written_back-self.result
+    (m.words c.write_own-wrote.new.memory) (processors_of c.end_line.new.self) c.end_line.new.self.list c.written_back-self.result
     (c.in_ok-replaceable.ensures.value ∙ ap (λ (n : ℕ). replace_place n (processors_of s.caches) (table_of s.caches) c.args.p c.args.a) c.size.ensures)
-    (c.write_own.ensures.count ∙ ap (λ (o : Option ℕ). cond (is_some o) 1 0) own) (c.write_own.ensures.words ∙ ap (λ (o : Option ℕ). written_to o c.args.a (m.words s.memory)) own)
+    (c.write_own-wrote.ensures.count ∙ ap (λ (o : Option ℕ). cond (is_some o) 1 0) own) (c.write_own-wrote.ensures.words ∙ ap (λ (o : Option ℕ). written_to o c.args.a (m.words s.memory)) own)
     c.end_line.ensures.order c.end_line.ensures.lines c.end_line.new.self.wide
     (c.written_back-self.ensures
-    ∙ (ap (λ (o : Option ℕ). written_last o n) c.and.ensures
-    ∙ (ap (written_last (option_and held (Some c.args.a))) c.write_own.ensures.count
-    ∙ (given-back held c.args.a ∙ ap (λ (o : Option ℕ). cond (is_some o) (written_back c.args.a 1) quiet) own))))) c.write_own.ensures.kept c.write_own.ensures.beside
+    ∙ (ap (λ (o : Option ℕ). written_last o n) c.write_own-wrote.ensures.last
+    ∙ (ap (written_last (cond (is_some held) (Some c.args.a) None)) c.write_own-wrote.ensures.count
+    ∙ (given-back held c.args.a ∙ ap (λ (o : Option ℕ). cond (is_some o) (written_back c.args.a 1) quiet) own))))) c.write_own-wrote.ensures.kept c.write_own-wrote.ensures.beside
