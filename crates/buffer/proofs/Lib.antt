@@ -1,3 +1,2 @@
 mod Buffering
-mod Going
 mod Starting

@@ -1,6 +1,6 @@
 // The central buffer: one store of versions for all four processors, over any memory. Every refusal is decided before
 // the first row or word changes.
-ghost use Rattle.std.specs.Prelude.{◌≡◌, ℕ, ◌+◌, ◌<◌, length, take, Ok, slice_index};
+ghost use Rattle.std.specs.Prelude.{◌≡◌, ℕ, ◌+◌, ◌<◌, ◌≤◌, length, take, Ok, slice_index};
 ghost use Rattle.versions.specs.declared.turn.Turn.TheVariants.{Start, Load, Store, Squash, Commit, Replace};
 ghost use Rattle.buffer.specs.Buffers.{plain_in, SoundBuffer, Took};
 ghost use Rattle.buffer.specs.Tasks.{versions_at};
@@ -22,6 +22,7 @@ impl<M: Memory> CentralBuffer<M> {
     fn seen(&mut self, k: usize, a: u32) -> Result<u32, Refusal>
         requires sound { M.Memory.sound self.old.memory }
         requires k_in_bounds { k < length self.old.tasks.order }
+        requires few { length self.old.tasks.order ≤ 4 }
         requires a_in_bounds { a < length (M.Memory.words self.old.memory) }
         ensures answer { result ≡ Ok (seen_by (versions_at self.old.tasks a (take (k + 1) self.old.tasks.order)) (slice_index (M.Memory.words self.old.memory) a)) }
         ensures words { M.Memory.words self.new.memory ≡ M.Memory.words self.old.memory }
@@ -29,7 +30,7 @@ impl<M: Memory> CentralBuffer<M> {
         ensures beside { M.Memory.spare self.new.memory ≡ M.Memory.spare self.old.memory }
         ensures kept { M.Memory.sound self.new.memory }
     {
-        match self.tasks.nearest(k, a) {
+        match self.tasks.nearest_own(k, a) {
             Some(w) => Ok(w),
             None => Ok(self.memory.read(a)?),
         }

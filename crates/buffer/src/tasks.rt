@@ -27,15 +27,13 @@ impl Tasks {
         }
     }
 
-    // The own word at a of the last task up to place k that has one.
-    pub fn nearest(&self, k: usize, a: u32) -> Option<u32>
-        requires { k < length self.now.order }
+    // The nearest own word at a, of the tasks up to place k.
+    pub fn nearest_own(&self, k: usize, a: u32) -> Option<u32>
+        requires k_in_bounds { k < length self.now.order }
+        requires few { length self.now.order ≤ 4 }
         ensures { result ≡ nearest_own (versions_at self.now a (take (k + 1) self.now.order)) }
     {
-        self.order.processors()[..=k]
-            .iter()
-            .rev()
-            .find_map(|p| self.rows.version(*p, a).own)
+        self.nearest(k + 1, a).and_then(|p| self.version(p, a).own)
     }
 
     // Adds a task on p, the youngest.

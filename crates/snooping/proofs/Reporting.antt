@@ -11,7 +11,8 @@ use Rattle.versions.specs.Tables.{Table, task_by, plain_of, last_own, or_else}
 use Rattle.versions.specs.Versions.{is_own, is_held}
 use Rattle.versions.proofs.Tabling.{placed, task_on-is, before-is, past_is, given-commit}
 use Rattle.snooping.specs.declared.report.BusReport.{BusReport}
-use Rattle.snooping.specs.Grid.{last_that, holder}
+use Rattle.snooping.specs.Grid.{holder}
+use Rattle.versions.specs.Tables.{last_that}
 use Rattle.snooping.specs.Report.{quiet, bus_read, bus_write, written_back, supplied_by, last_owner, reached, powers, written_last, report_by, report_of, report_after}
 
 pub no_answer : (n : ℕ) (e : Refusal) → ◌≡◌ {A = Result ℕ Refusal} (Ok n) (Err e) → ⊥

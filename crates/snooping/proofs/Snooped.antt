@@ -31,7 +31,8 @@ use Rattle.snooping.specs.declared.state.LineState.TheVariants.{Invalid, Loaded,
 use Rattle.snooping.specs.declared.state.LineEvent.TheVariants.{Commit as CommitLine}
 use Rattle.snooping.specs.declared.store.SnoopingStore.{SnoopingStore}
 use Rattle.snooping.specs.Caches.{processors_of}
-use Rattle.snooping.specs.Grid.{LineTable, line_in, Wide, table_by, with_line, with_cache, last_that, holder, relinked, cut_to}
+use Rattle.snooping.specs.Grid.{LineTable, line_in, Wide, table_by, with_line, with_cache, holder, relinked, cut_to}
+use Rattle.versions.specs.Tables.{last_that}
 use Rattle.snooping.specs.Layout.{lines_of}
 use Rattle.snooping.specs.Lines.{blank, version_in, version_at, with_loaded, with_stored, with_next, ended}
 use Rattle.snooping.specs.Report.{quiet, bus_read, bus_write, written_back, supplied_by, reached, powers, written_last, report_of, report_after}

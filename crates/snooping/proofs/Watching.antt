@@ -1,26 +1,10 @@
 -- Going through the tasks in order: the nearest earlier version, and whom invalidations reach.
-use Rattle.std.proofs.Common.{◌≡◌, ℕ, ◌+◌, ◌-◌, ◌*◌, ◌%◌, ◌^◌, ◌<◌, ◌≤◌, Bool, true, false, cond, List, [], ◌∷◌, ◌++◌, length, get_or, reverse, drop, Some, None, Option, sym, refl, ap, ◌∙◌, arith}
-use Rattle.std.specs.List.{find}
-use Rattle.std.proofs.lemmas.List.{drop_more, reverse-append, length-reverse, get_or-reverse}
+use Rattle.std.proofs.Common.{◌≡◌, ℕ, ◌+◌, ◌-◌, ◌*◌, ◌%◌, ◌^◌, ◌<◌, ◌≤◌, Bool, false, cond, List, [], ◌∷◌, length, get_or, reverse, drop, sym, ap, ◌∙◌, arith}
+use Rattle.std.proofs.lemmas.List.{drop_more, length-reverse, get_or-reverse}
 use Rattle.std.proofs.Math.Pow.{pow_mono}
 use Rattle.versions.specs.declared.version.Version.{Version}
 use Rattle.versions.specs.Versions.{is_own}
-use Rattle.versions.specs.Tables.{or_else}
-use Rattle.snooping.specs.Grid.{last_that}
 use Rattle.snooping.specs.Report.{reached, powers}
-
-find_push : (f : ℕ → Bool) (xs : List ℕ) (x : ℕ) → find f (xs ++ x ∷ []) ≡ or_else (find f xs) (cond (f x) (Some x) None)
-find_push f [] x = refl
-find_push f (y ∷ ys) x = go (f y) (find_push f ys x)
-  where
-    go : (t : Bool) → find f (ys ++ x ∷ []) ≡ or_else (find f ys) (cond (f x) (Some x) None) → cond t (Some y) (find f (ys ++ x ∷ [])) ≡ or_else (cond t (Some y) (find f ys)) (cond (f x) (Some x) None)
-    go true e = refl
-    go false e = e
-
--- the first from the back is the last
-pub find-reverse : (f : ℕ → Bool) (xs : List ℕ) → find f (reverse xs) ≡ last_that f xs
-find-reverse f [] = refl
-find-reverse f (x ∷ xs) = ap (find f) (reverse-append (x ∷ []) xs) ∙ (find_push f (reverse xs) x ∙ ap (λ (o : Option ℕ). or_else o (cond (f x) (Some x) None)) (find-reverse f xs))
 
 -- one task more
 pub reach-on : (f : ℕ → Version) (xs : List ℕ) (i mask bit p : ℕ) → i < length xs → p ≡ get_or xs i p → powers (reached f xs) ≡ mask + powers (reached f (drop i xs)) → bit ≡ 2 ^ p → is_own (f p) ≡ false

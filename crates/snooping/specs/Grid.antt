@@ -1,8 +1,8 @@
 -- The four caches as a table of lines by processor and line number, and what happens to the table.
-use Rattle.std.specs.Prelude.{◌≡◌, ℕ, ◌%◌, ◌<◌, Bool, true, cond, ◌&&◌, List, [], ◌∷◌, length, get_or, is_some, Some, None, Option, ◌==◌, slice_index_or}
+use Rattle.std.specs.Prelude.{◌≡◌, ℕ, ◌%◌, ◌<◌, true, cond, ◌&&◌, List, [], ◌∷◌, length, get_or, is_some, Option, ◌==◌, slice_index_or}
 use Rattle.std.specs.List.{find}
 use Rattle.versions.specs.Orders.{place_in}
-use Rattle.versions.specs.Tables.{Table, or_else}
+use Rattle.versions.specs.Tables.{Table}
 use Rattle.versions.specs.Versions.{is_held}
 use Rattle.snooping.specs.declared.cache.Cache.{Cache}
 use Rattle.snooping.specs.declared.line.Line.{Line}
@@ -37,11 +37,6 @@ with_line ls p c x q d = cond (q == p && d == c) x (ls q d)
 
 abbrev pub with_cache : LineTable → ℕ → (Line → Line) → LineTable
 with_cache ls p f q d = cond (q == p) (f (ls q d)) (ls q d)
-
--- the last of some that passes a test
-abbrev pub last_that : {A : Type 0} → (A → Bool) → List A → Option A
-last_that f [] = None
-last_that f (x ∷ xs) = or_else (last_that f xs) (cond (f x) (Some x) None)
 
 -- the first of some processors that holds a
 abbrev pub holder : Table → ℕ → List ℕ → Option ℕ

@@ -20,7 +20,8 @@ impl Caches {
     ghost use Rattle.versions.specs.Versions.{is_own};
     ghost use Rattle.snooping.specs.declared.state.LineEvent.TheVariants.{Commit};
     ghost use Rattle.snooping.specs.Caches.{lines_in, table_of, processors_of};
-    ghost use Rattle.snooping.specs.Grid.{last_that, with_line, with_cache, relinked, cut_to};
+    ghost use Rattle.snooping.specs.Grid.{with_line, with_cache, relinked, cut_to};
+    ghost use Rattle.versions.specs.Tables.{last_that};
     ghost use Rattle.snooping.specs.Lines.{blank, with_loaded, with_stored, ended};
     ghost use Rattle.snooping.specs.Report.{reached, powers};
 
@@ -125,18 +126,6 @@ impl Caches {
             let active = self.order.len();
             self.cut(active - n);
         }
-    }
-
-    // The nearest earlier version: of the k oldest tasks, the processor of the last that has an own word at a.
-    pub fn nearest(&self, k: usize, a: u32) -> Option<Processor>
-        requires { k ≤ length (processors_of self.now) }
-        ensures { result ≡ last_that (λ q. is_own (table_of self.now q a)) (take k (processors_of self.now)) }
-    {
-        self.order.processors()[..k]
-            .iter()
-            .rev()
-            .copied()
-            .find(|p| self.version(*p, a).own.is_some())
     }
 
     // The processors from place k on that the invalidations of a store to a reach, as a sum of powers of two.

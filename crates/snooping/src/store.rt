@@ -5,7 +5,7 @@ ghost use Rattle.versions.specs.declared.turn.Turn.TheVariants.{Start, Load, Sto
 ghost use Rattle.versions.specs.Plain.{word_of};
 ghost use Rattle.versions.specs.Versions.{is_own};
 ghost use Rattle.snooping.specs.Caches.{lines_in, table_of, processors_of};
-ghost use Rattle.snooping.specs.Grid.{last_that};
+ghost use Rattle.versions.specs.Tables.{last_that};
 ghost use Rattle.snooping.specs.Report.{quiet, supplied_by};
 ghost use Rattle.snooping.specs.Snooping.{plain_in, SoundSnooping, Took, Shown, line_answer, supplied_word};
 

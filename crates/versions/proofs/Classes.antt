@@ -275,10 +275,6 @@ class-inside at c ws vs b before l d e =
     let same : b ≡ d = cc in
     subst (λ (x : ℕ). x < length ws) same (subst (λ (n : ℕ). b < n) (ap length (sym before) ∙ length-laid_over_all (up_to_class at c) ws) l)
 
-pub one_at_most : (n : ℕ) (t : Bool) → n ≡ cond t 1 0 → n ≤ 1
-one_at_most n true e = omega arith
-one_at_most n false e = omega arith
-
 -- what is known of the address of a class that passes a test
 pub held-some : (f : ℕ → Bool) (c n a : ℕ) → of_class f c n ≡ Some a → (a < n) × (f a ≡ true) × (a % 16 ≡ c)
 held-some f c zero a e = let z : ◌≡◌ {A = ℕ} 0 1 = cc in absurd (omega arith)

@@ -89,6 +89,11 @@ abbrev pub or_else : {A : Type 0} → Option A → Option A → Option A
 or_else (Some x) other = Some x
 or_else None other = other
 
+-- the last of some that passes a test
+abbrev pub last_that : {A : Type 0} → (A → Bool) → List A → Option A
+last_that f [] = None
+last_that f (x ∷ xs) = or_else (last_that f xs) (cond (f x) (Some x) None)
+
 -- of the own words below n, the address of the one with the highest class below c
 abbrev pub last_own : (ℕ → Version) → ℕ → ℕ → Option ℕ
 last_own at n zero = None

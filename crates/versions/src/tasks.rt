@@ -1,10 +1,10 @@
 // The active tasks of a version store: their order, and each one's version at each address. What follows from those two
 // alone is written and proved here, once for every store that keeps them.
-ghost use Rattle.std.specs.Prelude.{◌≡◌, ℕ, ◌<◌, ◌≤◌, List, map, drop, IfOk};
+ghost use Rattle.std.specs.Prelude.{◌≡◌, ℕ, ◌<◌, ◌≤◌, List, map, length, take, drop, IfOk};
 ghost use Rattle.versions.specs.Orders.{Apart};
 ghost use Rattle.versions.specs.Plain.{holds_class};
-ghost use Rattle.versions.specs.Tables.{Table, task_by, Fitting, HeldIn, start_place, active_place, access_place, squash_place, commit_place, replace_place};
-ghost use Rattle.versions.specs.Versions.{squashed_by};
+ghost use Rattle.versions.specs.Tables.{Table, task_by, Fitting, HeldIn, last_that, start_place, active_place, access_place, squash_place, commit_place, replace_place};
+ghost use Rattle.versions.specs.Versions.{is_own, squashed_by};
 
 use crate::order::Order;
 use crate::processor::{Class, Processor};
@@ -35,6 +35,18 @@ pub trait TaskTable {
         ensures { (n : ℕ) → Fitting n (processors self.now) (table self.now) → result ≡ holds_class (task_by (table self.now) p) a n }
     {
         self.held(p, Class::of(a)).is_some_and(|b| b != a)
+    }
+
+    // The nearest version of a: of the k oldest tasks, the processor of the last that has an own word there.
+    fn nearest(&self, k: usize, a: u32) -> Option<Processor>
+        requires { k ≤ length (processors self.now) }
+        ensures { result ≡ last_that (λ q. is_own (table self.now q a)) (take k (processors self.now)) }
+    {
+        self.order().processors()[..k]
+            .iter()
+            .rev()
+            .copied()
+            .find(|p| self.version(*p, a).own.is_some())
     }
 
     // How many of the tasks from place k on a store to a squashes: the oldest with a mark that no own word of a task

@@ -9,6 +9,7 @@ use Rattle.versions.specs.Tables.{access_place}
 use Rattle.versions.proofs.Judging.{load-agrees, ok-access}
 use Rattle.versions.proofs.Serving.{refused-by, class-free, serve-load, load-version, ok-value}
 use Rattle.versions.proofs.Tabling.{placed}
+use Rattle.versions.proofs.Ordering.{few}
 use Rattle.buffer.proofs.buffer.CentralBuffer.fetch.Goals as goal
 
 pub returns-in_err-k : goal.returns-in_err-k
@@ -29,7 +30,7 @@ seen-requires g c =
     let ps = b.tasks.order in
     let y = ok-access (length (g.M.Memory.words b.memory)) ps (table_of b.tasks) c.args.p c.args.a c.in_ok-k.k
     (c.in_ok-k.ensures.value ∙ ap (λ (n : ℕ). access_place n ps (table_of b.tasks) c.args.p c.args.a) c.size.ensures) in
-    (record { sound = c.requires.memory; k_in_bounds = (placed ps c.args.p c.in_ok-k.k y.0).within; a_in_bounds = y.2 })
+    (record { sound = c.requires.memory; k_in_bounds = (placed ps c.args.p c.in_ok-k.k y.0).within; few = few ps c.in_ok-k.ensures.apart; a_in_bounds = y.2 })
 
 pub put-requires : goal.put-requires
 put-requires g c =

@@ -9,7 +9,7 @@ use Rattle.versions.proofs.Tabling.{placed}
 use Rattle.snooping.specs.declared.line.Line.{Line}
 use Rattle.snooping.specs.declared.report.Supplier.{Supplier}
 use Rattle.snooping.specs.Caches.{lines_in, processors_of, table_of}
-use Rattle.snooping.specs.Grid.{last_that}
+use Rattle.versions.specs.Tables.{last_that}
 use Rattle.snooping.specs.Lines.{version_at}
 use Rattle.snooping.specs.Report.{bus_read, supplied_by}
 use Rattle.snooping.specs.Snooping.{supplied_word}
