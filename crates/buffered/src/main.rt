@@ -64,7 +64,7 @@ fn print_answers(rt: &impl Print, answers: &[Answer]) -> anyhow::Result<()> {
     Ok(())
 }
 
-// The words of the row that are not 0.
+// The words of the row that are not 0, which the memory over it gives by address.
 fn print_words(rt: &impl Print, bytes: &mut [u8]) -> anyhow::Result<()> {
     ByteMemory::check(bytes)?;
     let mut memory = ByteMemory::open(bytes);

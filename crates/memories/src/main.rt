@@ -133,7 +133,7 @@ fn print_opening(
     size: usize,
     answer: Result<(), MemoryError>,
 ) -> anyhow::Result<()> {
-    let outcome = Outcome(answer.err());
+    let outcome = Outcome(answer);
     println!(rt; "opening {size} {unit}: {outcome}")?;
     Ok(())
 }

@@ -5,12 +5,12 @@ ghost use Rattle.memories.specs.Shown.{outcome_text, outside_text};
 use memory::MemoryError;
 use std::fmt;
 
-// The refusals that a read and a write of one address gave.
+// How a read and a write of one address ended.
 #[derive(Clone, Copy)]
 pub struct Outside {
     pub address: u32,
-    pub read: Option<MemoryError>,
-    pub write: Option<MemoryError>,
+    pub read: Result<(), MemoryError>,
+    pub write: Result<(), MemoryError>,
 }
 
 impl fmt::Display for Outside {
@@ -24,17 +24,17 @@ impl fmt::Display for Outside {
     }
 }
 
-// How a call ended: its refusal, if it gave one.
+// How a call ended, as the report writes it.
 #[derive(Clone, Copy)]
-pub struct Outcome(pub Option<MemoryError>);
+pub struct Outcome(pub Result<(), MemoryError>);
 
 impl fmt::Display for Outcome {
     ghost output = { λ o. Some (outcome_text o.0) };
 
     fn fmt<W: fmt::Write>(&self, f: &mut fmt::Formatter<W>) -> fmt::Result {
         match self.0 {
-            Some(e) => write!(f, "{e}"),
-            None => write!(f, "ok"),
+            Ok(()) => write!(f, "ok"),
+            Err(e) => write!(f, "{e}"),
         }
     }
 }

@@ -62,8 +62,8 @@ fn try_at<M: Memory>(memory: &mut M, a: u32) -> Outside
     ensures beside { M.Memory.spare memory.new ≡ M.Memory.spare memory.old }
     ensures kept { M.Memory.sound memory.new }
 {
-    let read = memory.read(a).err();
-    let write = memory.write(a, 0).err();
+    let read = memory.read(a).map(|_| ());
+    let write = memory.write(a, 0);
     Outside {
         address: a,
         read,

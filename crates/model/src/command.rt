@@ -4,6 +4,12 @@ ghost use Rattle.model.specs.Commands.{asked_of, answer_reply, number_reply, not
 
 use stores::{Answer, BusReport, Line, Turn};
 
+// The status of a reply that has nothing to tell.
+const NOTHING: u32 = 255;
+
+// What a pointer is told as that names no processor.
+const NO_PROCESSOR: u32 = 4;
+
 // What `code` asks, and its fields. A field that a command does not have is not looked at.
 #[repr(C)]
 #[derive(Clone, Copy)]
@@ -72,7 +78,7 @@ impl Reply {
         ensures { result ≡ nothing }
     {
         Reply {
-            status: 255,
+            status: NOTHING,
             ..Reply::default()
         }
     }
@@ -117,7 +123,7 @@ impl From<Option<Line>> for Reply {
                 second: line.state.has_s() as u32,
                 third: line.tag,
                 fourth: line.word,
-                fifth: line.next.unwrap_or(4),
+                fifth: line.next.unwrap_or(NO_PROCESSOR),
             },
             None => Reply::nothing(),
         }

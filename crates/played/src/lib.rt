@@ -56,7 +56,7 @@ where
     Ok(listing(heap, answers.items(), outcome, words.as_slice())?)
 }
 
-// The words of a memory, in their order.
+// The words of a memory, in their order. A memory shows no slice: its words are asked by address.
 fn words_of<M: Memory>(heap: Global, memory: &mut M) -> anyhow::Result<Vec<u32>>
     requires { M.Memory.sound memory.old }
     ensures { IfOk result (λ words. words.items ≡ M.Memory.words memory.old) }

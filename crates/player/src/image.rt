@@ -76,7 +76,8 @@ fn check_pairs(n: u32, pairs: &[u8]) -> Result<u64, ImageFault>
     Ok(words)
 }
 
-// Puts the words of an image that passed the checks into the memory.
+// Puts the words of an image that passed the checks into the memory. It takes the image apart again: a check that handed on
+// what it took apart would promise a relation, where it promises an equation.
 fn lay_image<M: Memory>(memory: &mut M, image: &[u8])
     requires sound { M.Memory.sound memory.old }
     requires accepted { Ok tt ≡ load_answer (length (M.Memory.words memory.old)) image.now }

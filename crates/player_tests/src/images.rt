@@ -26,7 +26,7 @@ fn load_numbers(
 fn accepts(rt: &(impl Abort + AllocGlobal), numbers: &[u32], after: [u32; 8]) -> Result<(), Fail> {
     let mut row = BEFORE;
     assert_eq!(rt; load_numbers(rt, &mut row, numbers, 0)?, Ok(()));
-    assert!(rt; row == after);
+    assert_eq!(rt; row, after);
     Ok(())
 }
 
@@ -40,7 +40,7 @@ fn refuses(
     let mut row = BEFORE;
     let fault = ImageFault { why, place };
     assert_eq!(rt; load_numbers(rt, &mut row, numbers, cut)?, Err(fault));
-    assert!(rt; row == BEFORE);
+    assert_eq!(rt; row, BEFORE);
     Ok(())
 }
 

@@ -29,6 +29,6 @@ fn images_come_one_after_another_and_then_the_turns(rt: HostRuntime) -> Result<(
     assert_eq!(rt; loaded, Ok(70));
     assert_eq!(rt; stored, Ok(0));
     assert_eq!(rt; committed, Ok(1));
-    assert!(rt; row == [0, 70, 71, 72]);
+    assert_eq!(rt; row, [0, 70, 71, 72]);
     Ok(())
 }
