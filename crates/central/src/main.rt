@@ -2,10 +2,13 @@
 #![tactic(auto)]
 
 use memory::WordMemory;
-use played::print_listing;
+use played::listing_of_files;
 use stores::CentralBuffer;
 
 fn main(rt: HostRuntime) -> anyhow::Result<()> {
     let mut words = vec![in rt.alloc(); 0u32; 4096]?;
-    print_listing::<CentralBuffer<WordMemory>>(&rt, WordMemory::open(words.as_mut_slice()))
+    let memory = WordMemory::open(words.as_mut_slice());
+    let listing = listing_of_files::<CentralBuffer<WordMemory>>(&rt, memory)?;
+    rt.print(listing.as_str())?;
+    Ok(())
 }

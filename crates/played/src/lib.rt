@@ -1,7 +1,7 @@
-// What the programs `play` and `central` do, on any version store over any memory: two files are read, played, and listed.
+// What the programs `play` and `central` print, on any version store over any memory: two files are read, played, and listed.
 #![tactic(auto)]
 
-ghost use Rattle.std.specs.Prelude.{◌≡◌, IfOk, string_bytes};
+ghost use Rattle.std.specs.Prelude.{◌≡◌, ℕ, ◌≤◌, List, length, IfOk, string_bytes};
 ghost use Rattle.played.specs.Played.{listing_played};
 
 use files::read_start;
@@ -9,7 +9,6 @@ use memory::Memory;
 use player::{RowList, listing, play_on};
 use std::alloc::Global;
 use std::fs::Files;
-use std::io::Print;
 use stores::{Turn, VersionStore};
 
 // As much of a file as is read.
@@ -18,21 +17,20 @@ const MOST_BYTES: usize = 32768;
 // As many turns, and as many answers, as there are places for.
 const MOST_TURNS: usize = 2048;
 
-// Plays the turns of `turns.txt` over a memory that `image.bin` fills, and prints the listing. What the two files hold, no contract
-// can say.
-pub fn print_listing<S: VersionStore>(
-    rt: &(impl Files + Print + AllocGlobal),
+// The listing of the turns of `turns.txt`, played over a memory that `image.bin` fills. What the two files hold, no contract can say:
+// it is the listing of some image and text, neither longer than what is read.
+pub fn listing_of_files<S: VersionStore>(
+    rt: &(impl Files + AllocGlobal),
     memory: S::Below,
-) -> anyhow::Result<()>
+) -> anyhow::Result<String>
 where
     S::Below: Drop,
     requires { S.Below.Memory.sound memory }
+    ensures { IfOk result (λ listing. (image : List ℕ) × (text : List ℕ) × (length image ≤ MOST_BYTES) × (length text ≤ MOST_BYTES) × (string_bytes listing ≡ listing_played MOST_TURNS (S.Below.Memory.words memory) image text)) }
 {
     let image = read_start(rt, "image.bin", MOST_BYTES)?;
     let text = read_start(rt, "turns.txt", MOST_BYTES)?;
-    let listing = listing_of::<S>(rt.alloc(), memory, image.as_slice(), text.as_slice())?;
-    rt.print(listing.as_str())?;
-    Ok(())
+    listing_of::<S>(rt.alloc(), memory, image.as_slice(), text.as_slice())
 }
 
 // The listing of a text of turns that is played over an image.
