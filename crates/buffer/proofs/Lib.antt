@@ -1,2 +1,2 @@
 mod Buffering
-mod Starting
+pub mod Taking

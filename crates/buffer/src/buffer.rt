@@ -1,16 +1,13 @@
 // The central buffer: one store of versions for all four processors, over any memory. Every refusal is decided before
 // the first row or word changes.
 ghost use Rattle.std.specs.Prelude.{◌≡◌, ℕ, ◌+◌, ◌<◌, ◌≤◌, length, take, Ok, slice_index};
-ghost use Rattle.versions.specs.declared.turn.Turn.TheVariants.{Start, Load, Store, Squash, Commit, Replace};
-ghost use Rattle.buffer.specs.Buffers.{plain_in, SoundBuffer, Took};
+ghost use Rattle.buffer.specs.Buffers.{plain_in, SoundBuffer};
 ghost use Rattle.buffer.specs.Tasks.{versions_at};
 ghost use Rattle.versions.specs.Versions.{seen_by};
 
 use crate::tasks::Tasks;
 use memory::Memory;
-use versions::{
-    Answer, Processor, Refusal, TaskTable, Turn, Version, VersionStore, write_back, write_own,
-};
+use versions::{Answer, Refusal, TaskTable, Version, VersionStore, write_back, write_own};
 
 pub struct CentralBuffer<M> {
     memory: M,
@@ -35,76 +32,6 @@ impl<M: Memory> CentralBuffer<M> {
             None => Ok(self.memory.read(a)?),
         }
     }
-
-    // Starts a task.
-    fn begin(&mut self, p: Processor) -> Answer
-        requires { SoundBuffer M.Memory.words M.Memory.sound self.old }
-        ensures { Took M.Memory.words M.Memory.sound M.Memory.spare self.old (Start p) result self.new }
-    {
-        let active = self.tasks.startable(p)?;
-        self.tasks.append(p);
-        Ok(active as u32)
-    }
-
-    // Loads.
-    fn fetch(&mut self, p: Processor, a: u32) -> Answer
-        requires { SoundBuffer M.Memory.words M.Memory.sound self.old }
-        ensures { Took M.Memory.words M.Memory.sound M.Memory.spare self.old (Load p a) result self.new }
-    {
-        let k = self.tasks.access(self.memory.size(), p, a)?;
-        let w = self.seen(k, a)?;
-        let version = self.tasks.version(p, a);
-        self.tasks.put(p, a, version.with_load());
-        Ok(w)
-    }
-
-    // Stores.
-    fn put(&mut self, p: Processor, a: u32, w: u32) -> Answer
-        requires { SoundBuffer M.Memory.words M.Memory.sound self.old }
-        ensures { Took M.Memory.words M.Memory.sound M.Memory.spare self.old (Store p a w) result self.new }
-    {
-        let k = self.tasks.access(self.memory.size(), p, a)?;
-        let active = self.tasks.order().len();
-        let hit = self.tasks.squashed(k + 1, a);
-        self.tasks.cut(active - hit);
-        let version = self.tasks.version(p, a);
-        self.tasks.put(p, a, version.with_store(w));
-        Ok(hit as u32)
-    }
-
-    // Squashes.
-    fn cut(&mut self, p: Processor) -> Answer
-        requires { SoundBuffer M.Memory.words M.Memory.sound self.old }
-        ensures { Took M.Memory.words M.Memory.sound M.Memory.spare self.old (Squash p) result self.new }
-    {
-        let k = self.tasks.squashable(p)?;
-        let active = self.tasks.order().len();
-        self.tasks.cut(k);
-        Ok((active - k) as u32)
-    }
-
-    // Replaces.
-    fn give_back(&mut self, p: Processor, a: u32) -> Answer
-        requires { SoundBuffer M.Memory.words M.Memory.sound self.old }
-        ensures { Took M.Memory.words M.Memory.sound M.Memory.spare self.old (Replace p a) result self.new }
-    {
-        self.tasks.replaceable(self.memory.size(), p, a)?;
-        let own = self.tasks.version(p, a).own;
-        let wrote = write_own(&mut self.memory, a, own);
-        self.tasks.put(p, a, Version::none());
-        Ok(wrote.words)
-    }
-
-    // Commits.
-    fn retire(&mut self, p: Processor) -> Answer
-        requires { SoundBuffer M.Memory.words M.Memory.sound self.old }
-        ensures { Took M.Memory.words M.Memory.sound M.Memory.spare self.old (Commit p) result self.new }
-    {
-        self.tasks.committable(p)?;
-        let wrote = write_back(&mut self.memory, &self.tasks, p);
-        self.tasks.retire(p);
-        Ok(wrote.words)
-    }
 }
 
 impl<M: Memory> VersionStore for CentralBuffer<M> {
@@ -128,16 +55,50 @@ impl<M: Memory> VersionStore for CentralBuffer<M> {
         }
     }
 
-    fn take_turn(&mut self, turn: Turn) -> Answer {
-        let p = Processor::try_from(turn.processor())?;
-        match turn {
-            Turn::Start { .. } => self.begin(p),
-            Turn::Load { a, .. } => self.fetch(p, a),
-            Turn::Store { a, w, .. } => self.put(p, a, w),
-            Turn::Squash { .. } => self.cut(p),
-            Turn::Commit { .. } => self.retire(p),
-            Turn::Replace { a, .. } => self.give_back(p, a),
-        }
+    fn start(&mut self, p: u32) -> Answer {
+        let (p, active) = self.tasks.startable(p)?;
+        self.tasks.append(p);
+        Ok(active as u32)
+    }
+
+    fn load(&mut self, p: u32, a: u32) -> Answer {
+        let (p, k) = self.tasks.access(self.memory.size(), p, a)?;
+        let w = self.seen(k, a)?;
+        let version = self.tasks.version(p, a);
+        self.tasks.put(p, a, version.with_load());
+        Ok(w)
+    }
+
+    fn store(&mut self, p: u32, a: u32, w: u32) -> Answer {
+        let (p, k) = self.tasks.access(self.memory.size(), p, a)?;
+        let active = self.tasks.order().len();
+        let hit = self.tasks.squashed(k + 1, a);
+        self.tasks.cut(active - hit);
+        let version = self.tasks.version(p, a);
+        self.tasks.put(p, a, version.with_store(w));
+        Ok(hit as u32)
+    }
+
+    fn squash(&mut self, p: u32) -> Answer {
+        let (_, k) = self.tasks.squashable(p)?;
+        let active = self.tasks.order().len();
+        self.tasks.cut(k);
+        Ok((active - k) as u32)
+    }
+
+    fn commit(&mut self, p: u32) -> Answer {
+        let (p, _) = self.tasks.committable(p)?;
+        let wrote = write_back(&mut self.memory, &self.tasks, p);
+        self.tasks.retire(p);
+        Ok(wrote.words)
+    }
+
+    fn replace(&mut self, p: u32, a: u32) -> Answer {
+        let (p, _) = self.tasks.replaceable(self.memory.size(), p, a)?;
+        let own = self.tasks.version(p, a).own;
+        let wrote = write_own(&mut self.memory, a, own);
+        self.tasks.put(p, a, Version::none());
+        Ok(wrote.words)
     }
 
     fn word(&mut self, a: u32) -> Result<u32, Refusal> {

@@ -11,7 +11,7 @@ use Rattle.versions.specs.Cuts.{any}
 use Rattle.versions.specs.Orders.{place_in}
 use Rattle.versions.specs.Versions.{is_held}
 use Rattle.versions.specs.Plain.{Task, Plain, is_on, task_on, is_head, holds_class, refusal_of, given, moved, answer_by, unless_refused, answer_of, state_after}
-use Rattle.versions.specs.Tables.{Table, task_by, plain_of, active_place, unless, access_place, squash_place, commit_place, replace_place}
+use Rattle.versions.specs.Tables.{Table, task_by, plain_of, start_place, with_processor, active_place, unless, access_place, squash_place, commit_place, replace_place}
 use Rattle.versions.proofs.Tabling.{placed, any-task_by, task_on-is}
 
 -- a refused turn; an accepted one
@@ -92,8 +92,13 @@ module _ (ws ps : List ℕ) (table : Table) (p : ℕ) where
   task-test : (k : ℕ) → place_in ps p ≡ Some k → task_on p (map (task_by table) ps) ≡ task_by table p
   task-test k e = task_on-is table ps p k (placed ps p k e)
 
-  pub start-agrees : refusal_of (plain_of ws ps table) (Start p) ≡ cond (leb 4 p) (Some NoProcessor) (cond (is_some (place_in ps p)) (Some TaskActive) None)
-  start-agrees = ap (λ (t : Bool). cond (leb 4 p) (Some NoProcessor) (cond t (Some TaskActive) None)) active-test
+  pub start-agrees : Agrees (start_place ps p) (refusal_of (plain_of ws ps table) (Start p))
+  start-agrees = subst (λ (t : Bool). Agrees (start_place ps p) (cond (leb 4 p) (Some NoProcessor) (cond t (Some TaskActive) None))) (sym active-test) (go (leb 4 p) (place_in ps p))
+    where
+      go : (low : Bool) (o : Option ℕ) → Agrees (cond low (Err NoProcessor) (cond (is_some o) (Err TaskActive) (Ok (length ps)))) (cond low (Some NoProcessor) (cond (is_some o) (Some TaskActive) None))
+      go true o = refl
+      go false None = refl
+      go false (Some k) = refl
 
   pub load-agrees : (a : ℕ) → Agrees (access_place (length ws) ps table p a) (refusal_of (plain_of ws ps table) (Load p a))
   load-agrees a =
@@ -134,6 +139,29 @@ ok-unless (Ok j) f e k h = go (f j) refl h
     go true x h = let z : ◌≡◌ {A = ℕ} 0 1 = cc in absurd (omega arith)
     go false x h = let same : k ≡ j = cc in (h, ap f same ∙ x)
 ok-unless (Err x) f e k h = let z : ◌≡◌ {A = ℕ} 0 1 = cc in absurd (omega arith)
+
+-- a place that stands beside the processor p
+same-pair : (x y : ℕ × ℕ) → ◌≡◌ {A = Result (ℕ × ℕ) Refusal} (Ok x) (Ok y) → x ≡ y
+same-pair x y e = cc
+
+pub at-processor : (p q k : ℕ) (place : ℕ → Result ℕ Refusal) → Ok (q, k) ≡ with_processor p (place p) → (q ≡ p) × (Ok k ≡ place q)
+at-processor p q k place h = go (place p) refl h
+  where
+    go : (r : Result ℕ Refusal) → place p ≡ r → Ok (q, k) ≡ with_processor p r → (q ≡ p) × (Ok k ≡ place q)
+    go (Ok j) e h = let same = same-pair (q, k) (p, j) h in (ap (λ x. x.0) same, ap (λ x. Ok x.1) same ∙ (sym e ∙ ap (λ x. place x.0) (sym same)))
+    go (Err x) e h = let z : ◌≡◌ {A = ℕ} 0 1 = cc in absurd (omega arith)
+
+pub no-place : (p : ℕ) (e : Refusal) (r : Result ℕ Refusal) → Err e ≡ with_processor p r → Err e ≡ r
+no-place p e (Ok j) h = let z : ◌≡◌ {A = ℕ} 0 1 = cc in absurd (omega arith)
+no-place p e (Err x) h = cc
+
+pub ok-start : (ps : List ℕ) (p k : ℕ) → Ok k ≡ start_place ps p → (place_in ps p ≡ None) × (p < 4) × (k ≡ length ps)
+ok-start ps p k h = go (leb 4 p) refl (place_in ps p) h
+  where
+    go : (t : Bool) → leb 4 p ≡ t → (o : Option ℕ) → Ok k ≡ cond t (Err NoProcessor) (cond (is_some o) (Err TaskActive) (Ok (length ps))) → (o ≡ None) × (p < 4) × (k ≡ length ps)
+    go true x o h = let z : ◌≡◌ {A = ℕ} 0 1 = cc in absurd (omega arith)
+    go false x None h = let same : k ≡ length ps = cc in (refl, leb-false 4 p x, same)
+    go false x (Some j) h = let z : ◌≡◌ {A = ℕ} 0 1 = cc in absurd (omega arith)
 
 pub ok-active : (ps : List ℕ) (p k : ℕ) → Ok k ≡ active_place ps p → (place_in ps p ≡ Some k) × (p < 4)
 ok-active ps p k h = go (leb 4 p) refl (place_in ps p) h

@@ -1,31 +1,30 @@
 -- A turn that a store with a table of versions serves: from its chain of conditions and its changes of words, order and
 -- table to the plain store's answer and state.
-use Rattle.std.proofs.Common.{◌≡◌, ℕ, suc, ◌+◌, ◌-◌, ◌%◌, ◌<◌, true, false, cond, not, ◌&&◌, eqb, ltb, leb, List, [], ◌∷◌, ◌++◌, map, length, get_or, take, drop, is_some, Some, None, Ok, Err, Option, Result, sym, ap, ◌∙◌, subst, ⊎_elim, add-one}
+use Rattle.std.proofs.Common.{◌≡◌, ℕ, suc, ◌+◌, ◌-◌, ◌%◌, ◌<◌, true, false, cond, not, ◌&&◌, eqb, ltb, List, [], ◌∷◌, ◌++◌, map, length, get_or, take, drop, is_some, Some, None, Ok, Err, Option, Result, sym, ap, ◌∙◌, subst, ⊎_elim, add-one}
 use Rattle.memory.specs.Client.{count_below}
 use Rattle.memory.specs.Words.{read_answer}
 use Rattle.memory.specs.declared.error.MemoryError.{MemoryError}
 use Rattle.memory.specs.declared.error.MemoryError.TheVariants.{Address}
-use Rattle.std.proofs.lemmas.Bool.{eq-eqb, ne_eqb, cases_eq, cond-true, cond-false, lt-leb, lt-ltb, true≢false}
+use Rattle.std.proofs.lemmas.Bool.{eq-eqb, ne_eqb, cases_eq, cond-true, lt-ltb, true≢false}
 use Rattle.versions.specs.declared.refusal.Refusal.{Refusal}
-use Rattle.versions.specs.declared.refusal.Refusal.TheVariants.{NoProcessor, TaskActive}
 use Rattle.versions.specs.declared.turn.Turn.{Turn}
 use Rattle.versions.specs.declared.turn.Turn.TheVariants.{Start, Load, Store, Squash, Commit, Replace}
 use Rattle.versions.specs.declared.version.Version.{Version}
 use Rattle.versions.specs.Orders.{place_in, Apart}
 use Rattle.versions.specs.Plain.{Plain, holds_class, laid_over_all, written_to, refusal_of, given, moved, answer_of, state_after}
-use Rattle.versions.specs.Tables.{Table, task_by, plain_of, with_version, without, without_all, Fitting, access_place, squash_place, commit_place, replace_place}
+use Rattle.versions.specs.Tables.{Table, task_by, plain_of, with_version, without, without_all, Fitting, with_processor, start_place, access_place, squash_place, commit_place, replace_place}
 use Rattle.versions.specs.Versions.{no_version, is_own, is_held, with_load, with_store, seen_by, squashed_by}
 use Rattle.versions.proofs.Classes.{any_below-never}
 use Rattle.versions.proofs.Fits.{fitting-start, fitting-put, fitting-cut, fitting-retire, plain-cut, plain-retire, without_all-value, held-without, parts_none, front_out}
 use Rattle.versions.proofs.Holding.{length-laid_over_all, length-written_to}
-use Rattle.versions.proofs.Judging.{Agrees, refused-turn, accepted-turn, start-agrees, load-agrees, squash-agrees, commit-agrees, replace-agrees, ok-access, ok-squash, ok-commit, ok-replace}
+use Rattle.versions.proofs.Judging.{Agrees, refused-turn, accepted-turn, start-agrees, load-agrees, squash-agrees, commit-agrees, replace-agrees, no-place, ok-start, ok-access, ok-squash, ok-commit, ok-replace}
 use Rattle.versions.proofs.Tabling.{place-take, tasks-same, squashes, squashes-le, given-load, moved-load, given-store, moved_store, given-squash, moved-squash, given-commit, moved-commit, given-replace, moved-replace, given-start, moved-start}
 
 -- a turn that a chain of conditions refused
-pub refused-by : (s : Plain) (t : Turn) (r : Result ℕ Refusal) (e : Refusal) (place : Result ℕ Refusal) → Agrees place (refusal_of s t) → Err e ≡ place → r ≡ Err e
+pub refused-by : (s : Plain) (t : Turn) (r : Result ℕ Refusal) (e : Refusal) (p : ℕ) (place : Result ℕ Refusal) → Agrees place (refusal_of s t) → Err e ≡ with_processor p place → r ≡ Err e
     → (r ≡ answer_of s t) × (s ≡ state_after s t)
-refused-by s t r e place agrees is r-is =
-    let no-turn = refused-turn s t e (subst (λ (x : Result ℕ Refusal). Agrees x (refusal_of s t)) (sym is) agrees) in
+refused-by s t r e p place agrees is r-is =
+    let no-turn = refused-turn s t e (subst (λ (x : Result ℕ Refusal). Agrees x (refusal_of s t)) (sym (no-place p e place is)) agrees) in
     (r-is ∙ no-turn.0, no-turn.1)
 
 pub accepted-by : (s : Plain) (t : Turn) (k : ℕ) (place : Result ℕ Refusal) → Agrees place (refusal_of s t) → Ok k ≡ place → refusal_of s t ≡ None
@@ -56,18 +55,15 @@ class-free n ps table p a x free b held class =
 
 module _ (ws ps : List ℕ) (table : Table) (apart : Apart ps) (x : Fitting (length ws) ps table) where
   -- a start
-
-  start-judged : (p : ℕ) → p < 4 → refusal_of (plain_of ws ps table) (Start p) ≡ cond (is_some (place_in ps p)) (Some TaskActive) None
-  start-judged p h = start-agrees ws ps table p ∙ cond-false (leb 4 p) (Some NoProcessor) (cond (is_some (place_in ps p)) (Some TaskActive) None) (lt-leb 4 p h)
-
-  pub serve-start : (p : ℕ) (later : List ℕ) (table' : Table) → p < 4 → place_in ps p ≡ None → later ≡ ps ++ p ∷ [] → table' ≡ table
-      → Served (plain_of ws ps table) (Start p) (Ok (length ps)) ws later table'
-  serve-start p later table' h none order same =
-      subst (λ (t : Table). Served (plain_of ws ps table) (Start p) (Ok (length ps)) ws later t) (sym same)
-      (subst (λ (l : List ℕ). Served (plain_of ws ps table) (Start p) (Ok (length ps)) ws l table) (sym order)
-      (served (plain_of ws ps table) (Start p) (length ps) ws (ps ++ p ∷ []) table
-      (start-judged p h ∙ ap (λ (o : Option ℕ). cond (is_some o) (Some TaskActive) None) none)
-      (sym (given-start ws ps table p)) (sym (moved-start ws ps table p (x.idle p none))) (fitting-start (length ws) ps table p x)))
+  pub serve-start : (p k : ℕ) (later : List ℕ) (table' : Table) → Ok k ≡ start_place ps p → later ≡ ps ++ p ∷ [] → table' ≡ table
+      → Served (plain_of ws ps table) (Start p) (Ok k) ws later table'
+  serve-start p k later table' ok order same =
+      let y = ok-start ps p k ok in
+      subst (λ (t : Table). Served (plain_of ws ps table) (Start p) (Ok k) ws later t) (sym same)
+      (subst (λ (l : List ℕ). Served (plain_of ws ps table) (Start p) (Ok k) ws l table) (sym order)
+      (served (plain_of ws ps table) (Start p) k ws (ps ++ p ∷ []) table
+      (accepted-by (plain_of ws ps table) (Start p) k (start_place ps p) (start-agrees ws ps table p) ok)
+      (y.2 ∙ sym (given-start ws ps table p)) (sym (moved-start ws ps table p (x.idle p y.0))) (fitting-start (length ws) ps table p x)))
 
   -- a load
   pub serve-load : (p a k w : ℕ) (ws' : List ℕ) (later : List ℕ) (table' : Table) → Ok k ≡ access_place (length ws) ps table p a

@@ -6,6 +6,7 @@ pub mod Orders
 pub mod Versions
 pub mod Plain
 pub mod Tables
+pub mod Taken
 pub mod Book
 pub mod Sequential
 pub mod Runs

@@ -58,7 +58,7 @@ unless (Err x) test e = Err x
 
 -- the place that a new task on p takes, the number of active tasks
 abbrev pub start_place : List ℕ → ℕ → Result ℕ Refusal
-start_place ps p = cond (is_some (place_in ps p)) (Err TaskActive) (Ok (length ps))
+start_place ps p = cond (nat_le 4 p) (Err NoProcessor) (cond (is_some (place_in ps p)) (Err TaskActive) (Ok (length ps)))
 
 -- the place of p's task for a load or store of a, a squash, a commit and a replacement of a, each by its conditions
 abbrev pub access_place : ℕ → List ℕ → Table → ℕ → ℕ → Result ℕ Refusal
@@ -74,6 +74,11 @@ commit_place ps p = unless (active_place ps p) (λ k. not (k == 0)) NotHead
 abbrev pub replace_place : ℕ → List ℕ → Table → ℕ → ℕ → Result ℕ Refusal
 replace_place n ps table p a =
     unless (unless (unless (active_place ps p) (λ k. leb n a) NoAddress) (λ k. not (k == 0)) NotHead) (λ k. not (is_held (table p a))) NotHeld
+
+-- a place, with the processor whose task has it
+abbrev pub with_processor : ℕ → Result ℕ Refusal → Result (ℕ × ℕ) Refusal
+with_processor p (Ok k) = Ok (p, k)
+with_processor p (Err e) = Err e
 
 -- a task's versions of the classes below c
 abbrev pub up_to_class : (ℕ → Version) → ℕ → ℕ → Version

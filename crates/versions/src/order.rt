@@ -6,7 +6,7 @@ use crate::processor::Processor;
 use arrayvec::ArrayVec;
 use std::marker::Model;
 
-#[derive(Drop)]
+#[derive(Clone, Drop)]
 pub struct Order {
     list: ArrayVec<Processor, 4>,
 }

@@ -1,12 +1,12 @@
 // Processors and classes of addresses: small numbers that were checked once, where they came in.
-ghost use Rattle.std.specs.Prelude.{◌≡◌, ◌%◌, ◌<◌, ◌≤◌, cond, Some, None, nat_le};
-ghost use Rattle.versions.specs.Processors.{processor_answer};
+ghost use Rattle.std.specs.Prelude.{◌≡◌, ◌%◌, ◌<◌};
+ghost use Rattle.versions.specs.Processors.{processor_answer, class_answer};
 
 use crate::refusal::Refusal;
 use std::marker::Model;
 
 // A processor: a number below 4.
-#[derive(Clone, Copy, PartialEq, Debug)]
+#[derive(Clone, Copy, PartialEq, Debug, Default)]
 pub struct Processor {
     number: u32,
 }
@@ -38,12 +38,6 @@ impl Processor {
         ensures bound { result < 4 }
     {
         self.number as usize
-    }
-}
-
-impl Default for Processor {
-    fn default() -> Processor {
-        Processor { number: 0 }
     }
 }
 
@@ -87,21 +81,25 @@ impl Class {
         Class { remainder: a % 16 }
     }
 
-    // The class with this remainder, if there is one.
-    pub fn with(remainder: u32) -> Option<Class>
-        ensures { result ≡ cond (nat_le 16 remainder) None (Some remainder) }
-    {
-        if remainder >= 16 {
-            return None;
-        }
-        Some(Class { remainder })
-    }
-
     // Its place in a row of sixteen.
     pub fn index(self) -> usize
         ensures value { result ≡ self }
         ensures bound { result < 16 }
     {
         self.remainder as usize
+    }
+}
+
+// A number of 16 or more is no class's. That is all there is to say of it.
+impl TryFrom<u32> for Class {
+    type Error = ();
+
+    ghost try_from_gives = { λ c r. r ≡ class_answer c };
+
+    fn try_from(c: u32) -> Result<Class, ()> {
+        if c >= 16 {
+            return Err(());
+        }
+        Ok(Class { remainder: c })
     }
 }

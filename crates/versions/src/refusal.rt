@@ -3,6 +3,7 @@ ghost use Rattle.std.specs.Prelude.{◌≡◌, Some};
 ghost use Rattle.versions.specs.Refusals.{refusal_number, refusal_text, refusal_below};
 
 use memory::MemoryError;
+use std::error::Error;
 use std::fmt;
 
 #[derive(Clone, Copy, PartialEq, Debug)]
@@ -44,6 +45,8 @@ impl fmt::Display for Refusal {
         write!(f, "no {number}")
     }
 }
+
+impl Error for Refusal {}
 
 // What the memory below refuses, a turn refuses: its reads and writes give no other refusal than that of the address.
 impl From<MemoryError> for Refusal {

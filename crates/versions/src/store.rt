@@ -3,7 +3,8 @@
 ghost use Rattle.std.specs.Prelude.{◌≡◌, ℕ, ◌≤◌, List, length};
 ghost use Rattle.versions.specs.declared.turn.Turn.{Turn};
 ghost use Rattle.versions.specs.declared.turn.Turn.TheVariants.{Start, Load, Store, Squash, Commit, Replace};
-ghost use Rattle.versions.specs.Plain.{Plain, opened, memory_words, active_tasks, answer_of, state_after, word_of};
+ghost use Rattle.versions.specs.Plain.{Plain, opened, memory_words, active_tasks, word_of};
+ghost use Rattle.versions.specs.Taken.{Took};
 
 use crate::refusal::{Answer, Refusal};
 use crate::turn::Turn;
@@ -36,14 +37,36 @@ pub trait VersionStore: Sized {
         ensures beside { spare result ≡ Self.Below.Memory.spare memory }
         ensures kept { sound result };
 
-    // Plays one turn.
-    fn take_turn(&mut self, turn: Turn) -> Answer
+    // Starts a task on p, the youngest. It gives the number of tasks active before.
+    fn start(&mut self, p: u32) -> Answer
         requires { sound self.old }
-        ensures answer { result ≡ answer_of (plain self.old) turn }
-        ensures after { plain self.new ≡ state_after (plain self.old) turn }
-        ensures shows { shows self.old turn self.new }
-        ensures beside { spare self.new ≡ spare self.old }
-        ensures kept { sound self.new };
+        ensures { Took plain shows spare sound self.old (Start p) result self.new };
+
+    // Loads address a for p's task. It gives the word that the task sees there.
+    fn load(&mut self, p: u32, a: u32) -> Answer
+        requires { sound self.old }
+        ensures { Took plain shows spare sound self.old (Load p a) result self.new };
+
+    // Stores w at address a for p's task. It gives the number of later tasks squashed.
+    fn store(&mut self, p: u32, a: u32, w: u32) -> Answer
+        requires { sound self.old }
+        ensures { Took plain shows spare sound self.old (Store p a w) result self.new };
+
+    // Removes p's task and all later ones. It gives their number.
+    fn squash(&mut self, p: u32) -> Answer
+        requires { sound self.old }
+        ensures { Took plain shows spare sound self.old (Squash p) result self.new };
+
+    // Writes the own words of p's task to memory and removes the task. It gives the number of own words.
+    fn commit(&mut self, p: u32) -> Answer
+        requires { sound self.old }
+        ensures { Took plain shows spare sound self.old (Commit p) result self.new };
+
+    // Writes the own word of p's task at a to memory, if there is one, and drops what the task holds there. It gives 1
+    // if it wrote, else 0.
+    fn replace(&mut self, p: u32, a: u32) -> Answer
+        requires { sound self.old }
+        ensures { Took plain shows spare sound self.old (Replace p a) result self.new };
 
     // The memory's word at a, as the store counts it; own words of active tasks do not show.
     fn word(&mut self, a: u32) -> Result<u32, Refusal>
@@ -71,76 +94,18 @@ pub trait VersionStore: Sized {
         ensures beside { Self.Below.Memory.spare result ≡ spare self }
         ensures kept { Self.Below.Memory.sound result };
 
-    // Starts a task on p, the youngest. It gives the number of tasks active before.
-    fn start(&mut self, p: u32) -> Answer
+    // Plays one turn.
+    fn take_turn(&mut self, turn: Turn) -> Answer
         requires { sound self.old }
-        ensures answer { result ≡ answer_of (plain self.old) (Start p) }
-        ensures after { plain self.new ≡ state_after (plain self.old) (Start p) }
-        ensures shows { shows self.old (Start p) self.new }
-        ensures beside { spare self.new ≡ spare self.old }
-        ensures kept { sound self.new }
+        ensures { Took plain shows spare sound self.old turn result self.new }
     {
-        self.take_turn(Turn::Start { p })
-    }
-
-    // Loads address a for p's task. It gives the word that the task sees there.
-    fn load(&mut self, p: u32, a: u32) -> Answer
-        requires { sound self.old }
-        ensures answer { result ≡ answer_of (plain self.old) (Load p a) }
-        ensures after { plain self.new ≡ state_after (plain self.old) (Load p a) }
-        ensures shows { shows self.old (Load p a) self.new }
-        ensures beside { spare self.new ≡ spare self.old }
-        ensures kept { sound self.new }
-    {
-        self.take_turn(Turn::Load { p, a })
-    }
-
-    // Stores w at address a for p's task. It gives the number of later tasks squashed.
-    fn store(&mut self, p: u32, a: u32, w: u32) -> Answer
-        requires { sound self.old }
-        ensures answer { result ≡ answer_of (plain self.old) (Store p a w) }
-        ensures after { plain self.new ≡ state_after (plain self.old) (Store p a w) }
-        ensures shows { shows self.old (Store p a w) self.new }
-        ensures beside { spare self.new ≡ spare self.old }
-        ensures kept { sound self.new }
-    {
-        self.take_turn(Turn::Store { p, a, w })
-    }
-
-    // Removes p's task and all later ones. It gives their number.
-    fn squash(&mut self, p: u32) -> Answer
-        requires { sound self.old }
-        ensures answer { result ≡ answer_of (plain self.old) (Squash p) }
-        ensures after { plain self.new ≡ state_after (plain self.old) (Squash p) }
-        ensures shows { shows self.old (Squash p) self.new }
-        ensures beside { spare self.new ≡ spare self.old }
-        ensures kept { sound self.new }
-    {
-        self.take_turn(Turn::Squash { p })
-    }
-
-    // Writes the own words of p's task to memory and removes the task. It gives the number of own words.
-    fn commit(&mut self, p: u32) -> Answer
-        requires { sound self.old }
-        ensures answer { result ≡ answer_of (plain self.old) (Commit p) }
-        ensures after { plain self.new ≡ state_after (plain self.old) (Commit p) }
-        ensures shows { shows self.old (Commit p) self.new }
-        ensures beside { spare self.new ≡ spare self.old }
-        ensures kept { sound self.new }
-    {
-        self.take_turn(Turn::Commit { p })
-    }
-
-    // Writes the own word of p's task at a to memory, if there is one, and drops what the task holds there. It gives 1
-    // if it wrote, else 0.
-    fn replace(&mut self, p: u32, a: u32) -> Answer
-        requires { sound self.old }
-        ensures answer { result ≡ answer_of (plain self.old) (Replace p a) }
-        ensures after { plain self.new ≡ state_after (plain self.old) (Replace p a) }
-        ensures shows { shows self.old (Replace p a) self.new }
-        ensures beside { spare self.new ≡ spare self.old }
-        ensures kept { sound self.new }
-    {
-        self.take_turn(Turn::Replace { p, a })
+        match turn {
+            Turn::Start { p } => self.start(p),
+            Turn::Load { p, a } => self.load(p, a),
+            Turn::Store { p, a, w } => self.store(p, a, w),
+            Turn::Squash { p } => self.squash(p),
+            Turn::Commit { p } => self.commit(p),
+            Turn::Replace { p, a } => self.replace(p, a),
+        }
     }
 }

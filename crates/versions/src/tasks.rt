@@ -3,7 +3,7 @@
 ghost use Rattle.std.specs.Prelude.{◌≡◌, ℕ, ◌<◌, ◌≤◌, List, map, length, take, drop, IfOk};
 ghost use Rattle.versions.specs.Orders.{Apart};
 ghost use Rattle.versions.specs.Plain.{holds_class};
-ghost use Rattle.versions.specs.Tables.{Table, task_by, Fitting, HeldIn, last_that, start_place, active_place, access_place, squash_place, commit_place, replace_place};
+ghost use Rattle.versions.specs.Tables.{Table, task_by, Fitting, HeldIn, last_that, with_processor, start_place, active_place, access_place, squash_place, commit_place, replace_place};
 ghost use Rattle.versions.specs.Versions.{is_own, squashed_by};
 
 use crate::order::Order;
@@ -68,71 +68,73 @@ pub trait TaskTable {
         0
     }
 
-    // The place that a new task on p takes, unless p has one already.
-    fn startable(&self, p: Processor) -> Result<usize, Refusal>
-        ensures value { result ≡ start_place (processors self.now) p }
-        ensures processor { p < 4 }
-        ensures bound { IfOk result (λ k. k ≤ 4) }
-        ensures apart { Apart (processors self.now) }
+    // The processor p, and the place that a new task on it takes, unless it has one already.
+    fn startable(&self, p: u32) -> Result<(Processor, usize), Refusal>
+        ensures value { result ≡ with_processor p (start_place (processors self.now) p) }
+        ensures bound { IfOk result (λ x. x.1 ≤ 4) }
+        ensures apart { IfOk result (λ _. Apart (processors self.now)) }
     {
+        let p = Processor::try_from(p)?;
         if self.order().place(p.number()).is_some() {
             return Err(Refusal::TaskActive);
         }
-        Ok(self.order().len())
+        Ok((p, self.order().len()))
     }
 
-    // The place of p's task, unless p has none.
-    fn active(&self, p: Processor) -> Result<usize, Refusal>
-        ensures value { result ≡ active_place (processors self.now) p }
-        ensures apart { Apart (processors self.now) }
+    // The processor p, and the place of its task, unless it has none.
+    fn active(&self, p: u32) -> Result<(Processor, usize), Refusal>
+        ensures value { result ≡ with_processor p (active_place (processors self.now) p) }
+        ensures apart { IfOk result (λ _. Apart (processors self.now)) }
     {
-        self.order().place(p.number()).ok_or(Refusal::NoTask)
+        let p = Processor::try_from(p)?;
+        let k = self.order().place(p.number()).ok_or(Refusal::NoTask)?;
+        Ok((p, k))
     }
 
-    // The place of p's task, unless p may not load or store at a, in a memory of n words.
-    fn access(&self, n: u32, p: Processor, a: u32) -> Result<usize, Refusal>
+    // The same, unless p may not load or store at a, in a memory of n words.
+    fn access(&self, n: u32, p: u32, a: u32) -> Result<(Processor, usize), Refusal>
         requires { Fitting n (processors self.now) (table self.now) }
-        ensures value { result ≡ access_place n (processors self.now) (table self.now) p a }
-        ensures apart { Apart (processors self.now) }
+        ensures value { result ≡ with_processor p (access_place n (processors self.now) (table self.now) p a) }
+        ensures apart { IfOk result (λ _. Apart (processors self.now)) }
     {
-        let k = self.active(p)?;
+        let (p, k) = self.active(p)?;
         if a >= n {
             return Err(Refusal::NoAddress);
         }
         if self.class_taken(p, a) {
             return Err(Refusal::ClassTaken);
         }
-        Ok(k)
+        Ok((p, k))
     }
 
-    // The place of p's task, unless p may not be squashed.
-    fn squashable(&self, p: Processor) -> Result<usize, Refusal>
-        ensures value { result ≡ squash_place (processors self.now) p }
-        ensures apart { Apart (processors self.now) }
+    // The same, unless p may not be squashed.
+    fn squashable(&self, p: u32) -> Result<(Processor, usize), Refusal>
+        ensures value { result ≡ with_processor p (squash_place (processors self.now) p) }
+        ensures apart { IfOk result (λ _. Apart (processors self.now)) }
     {
         match self.active(p)? {
-            0 => Err(Refusal::IsHead),
-            k => Ok(k),
+            (_, 0) => Err(Refusal::IsHead),
+            task => Ok(task),
         }
     }
 
-    // The place of p's task, unless p may not commit.
-    fn committable(&self, p: Processor) -> Result<usize, Refusal>
-        ensures value { result ≡ commit_place (processors self.now) p }
-        ensures apart { Apart (processors self.now) }
+    // The same, unless p may not commit.
+    fn committable(&self, p: u32) -> Result<(Processor, usize), Refusal>
+        ensures value { result ≡ with_processor p (commit_place (processors self.now) p) }
+        ensures apart { IfOk result (λ _. Apart (processors self.now)) }
     {
         match self.active(p)? {
-            0 => Ok(0),
+            (p, 0) => Ok((p, 0)),
             _ => Err(Refusal::NotHead),
         }
     }
 
-    // The place of p's task, unless p may not replace a, in a memory of n words.
-    fn replaceable(&self, n: u32, p: Processor, a: u32) -> Result<usize, Refusal>
-        ensures value { result ≡ replace_place n (processors self.now) (table self.now) p a }
-        ensures apart { Apart (processors self.now) }
+    // The same, unless p may not replace a, in a memory of n words.
+    fn replaceable(&self, n: u32, p: u32, a: u32) -> Result<(Processor, usize), Refusal>
+        ensures value { result ≡ with_processor p (replace_place n (processors self.now) (table self.now) p a) }
+        ensures apart { IfOk result (λ _. Apart (processors self.now)) }
     {
-        let k = self.active(p)?;
+        let (p, k) = self.active(p)?;
         if a >= n {
             return Err(Refusal::NoAddress);
         }
@@ -142,6 +144,6 @@ pub trait TaskTable {
         if !self.version(p, a).is_held() {
             return Err(Refusal::NotHeld);
         }
-        Ok(k)
+        Ok((p, k))
     }
 }

@@ -1,0 +1,13 @@
+-- A turn taken by a store of type S, by what the store's own type says of it: the plain state that it stands for, what it shows of
+-- a turn, the bytes beside the words, and the condition that it keeps.
+use Rattle.std.specs.Prelude.{◌≡◌, ℕ, List, Result}
+use Rattle.versions.specs.declared.refusal.Refusal.{Refusal}
+use Rattle.versions.specs.declared.turn.Turn.{Turn}
+use Rattle.versions.specs.Plain.{Plain, answer_of, state_after}
+
+pub record Took {S : Type 0} (state : S → Plain) (show : S → Turn → S → Type 0) (rest : S → List ℕ) (good : S → Type 0) (s : S) (t : Turn) (r : Result ℕ Refusal) (later : S) : Type 0 where
+  pub answer : r ≡ answer_of (state s) t
+  pub after : state later ≡ state_after (state s) t
+  pub shows : show s t later
+  pub beside : rest later ≡ rest s
+  pub kept : good later
