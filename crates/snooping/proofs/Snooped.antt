@@ -14,12 +14,13 @@ use Rattle.versions.specs.declared.version.Version.{Version}
 use Rattle.versions.specs.Orders.{place_in, Apart}
 use Rattle.versions.specs.Plain.{Plain, refusal_of, laid_over_all, written_to, answer_of, state_after}
 use Rattle.versions.specs.Processors.{processor_answer}
-use Rattle.versions.specs.Tables.{Table, plain_of, empty_table, with_version, without, without_all, Fitting, access_place, start_place, squash_place, commit_place, replace_place, last_own, or_else}
+use Rattle.versions.specs.Tables.{Table, plain_of, empty_table, with_version, without, without_all, Fitting, with_processor, access_place, start_place, squash_place, commit_place, replace_place, last_own, or_else}
 use Rattle.versions.specs.Turns.{processor_of}
 use Rattle.versions.specs.Versions.{no_version, is_held, is_own, with_load, with_store, laid_over, seen_by, squashed_by}
 use Rattle.versions.proofs.Classes.{unheld-none}
 use Rattle.versions.proofs.Fits.{none-join, without_all-value, front_out}
-use Rattle.versions.proofs.Judging.{Agrees, start-agrees, no-processor, ok-access, ok-commit, ok-replace}
+use Rattle.versions.specs.Taken.{Took}
+use Rattle.versions.proofs.Judging.{Agrees, ok-start, ok-access, ok-commit, ok-replace}
 use Rattle.versions.proofs.Ordering.{apart-push, apart-take, apart-drop, none-some}
 use Rattle.versions.proofs.Serving.{Served, refused-by, class-free, serve-start, serve-load, serve-store, serve-squash, serve-commit, serve-replace}
 use Rattle.versions.proofs.Tabling.{placed, none-past, place-take, squashes, squashes-le}
@@ -36,7 +37,7 @@ use Rattle.versions.specs.Tables.{last_that}
 use Rattle.snooping.specs.Layout.{lines_of}
 use Rattle.snooping.specs.Lines.{blank, version_in, version_at, with_loaded, with_stored, with_next, ended}
 use Rattle.snooping.specs.Report.{quiet, bus_read, bus_write, written_back, supplied_by, reached, powers, written_last, report_of, report_after}
-use Rattle.snooping.specs.Snooping.{plain_in, SoundSnooping, Shown, Took, supplied_word}
+use Rattle.snooping.specs.Snooping.{plain_in, SoundSnooping, Shown, supplied_word}
 use Rattle.snooping.specs.States.{has_s}
 use Rattle.snooping.proofs.Ending.{cut-table, keep-cut, commit-table, keep-commit, replace-table, keep-replace}
 use Rattle.snooping.proofs.Holders.{holder-same, holder-none, same-column, seen-append, seen-owns, hidden-copy, take-place, place-once, place-value}
@@ -285,21 +286,6 @@ module _ (ws ps : List ℕ) (ls : LineTable) (x : Laid ws ps ls) (apart : Apart 
           ⊎_elim (λ (class : c ≡ a % 16). relinked-unheld ps a (with_line ls p (a % 16) y) q c (unshown q c class (λ h t. true≢false (sym h ∙ none))))
           (λ (class : c ≡ a % 16 → ⊥). relinked-class ps a (with_line ls p (a % 16) y) q c (ne_eqb c (a % 16) class)) (cases_eq c (a % 16))
 
-pub ok-start : (ps : List ℕ) (p k : ℕ) → Ok k ≡ start_place ps p → (place_in ps p ≡ None) × (k ≡ length ps)
-ok-start ps p k e = go (place_in ps p) e
-  where
-    go : (o : Option ℕ) → Ok k ≡ cond (is_some o) (Err TaskActive) (Ok (length ps)) → (o ≡ None) × (k ≡ length ps)
-    go None f = (refl, cc)
-    go (Some j) f = absurd (no_answer k TaskActive f)
-
-pub start-judged : (ws ps : List ℕ) (table : Table) (p : ℕ) → p < 4 → Agrees (start_place ps p) (refusal_of (plain_of ws ps table) (Start p))
-start-judged ws ps table p h =
-    subst (Agrees (start_place ps p)) (sym (start-agrees ws ps table p ∙ cond-false (leb 4 p) (Some NoProcessor) (cond (is_some (place_in ps p)) (Some TaskActive) None) (lt-leb 4 p h))) (go (is_some (place_in ps p)))
-  where
-    go : (t : Bool) → Agrees (cond t (Err TaskActive) (Ok (length ps))) (cond t (Some TaskActive) None)
-    go true = refl
-    go false = refl
-
 -- from a state whose lines are those of the plain state
 module _ {M : Type 0} (words : M → List ℕ) {sound : M → Type 0} (st : SnoopingStore M) (kept : SoundSnooping words sound st) (apart : Apart (processors_of st.caches)) where
   abbrev ws : List ℕ
@@ -335,16 +321,14 @@ module _ {M : Type 0} (words : M → List ℕ) {sound : M → Type 0} (st : Snoo
   laid : Laid (words st.memory) (processors_of st.caches) (line_in st.caches.list)
   laid = laid-caches (words st.memory) (processors_of st.caches) st.caches.list st.caches.wide kept.lines apart
 
-  pub turn-start : (p k : ℕ) (later : List ℕ) (new : List Cache) (now : BusReport) → p < 4 → Ok k ≡ start_place ps p → later ≡ ps ++ p ∷ [] → new ≡ cs → now ≡ quiet
+  pub turn-start : (p k : ℕ) (later : List ℕ) (new : List Cache) (now : BusReport) → Ok k ≡ start_place ps p → later ≡ ps ++ p ∷ [] → new ≡ cs → now ≡ quiet
       → Turned state (Start p) old (Ok k) ws later new now
-  turn-start p k later new now h ok order same report =
+  turn-start p k later new now ok order same report =
       let y = ok-start ps p k ok in
-      let none = y.0 in
-      subst (λ (j : ℕ). Turned state (Start p) old (Ok j) ws later new now) (sym y.1)
-      (subst (λ (x : List Cache). Turned state (Start p) old (Ok (length ps)) ws later x now) (sym same)
-      (subst (λ (l : List ℕ). Turned state (Start p) old (Ok (length ps)) ws l cs now) (sym order)
-      (turned state (Start p) old (length ps) ws (ps ++ p ∷ []) cs table now (serve-start ws ps table apart fits p (ps ++ p ∷ []) table h none refl refl) refl wide (apart-push ps p apart h none)
-      (keep-start ws ps ls laid p (fits.idle p none)) report)))
+      subst (λ (x : List Cache). Turned state (Start p) old (Ok k) ws later x now) (sym same)
+      (subst (λ (l : List ℕ). Turned state (Start p) old (Ok k) ws l cs now) (sym order)
+      (turned state (Start p) old k ws (ps ++ p ∷ []) cs table now (serve-start ws ps table apart fits p k (ps ++ p ∷ []) table ok refl refl) refl wide (apart-push ps p apart y.1 y.0)
+      (keep-start ws ps ls laid p (fits.idle p y.0)) report))
 
   -- the line of an address that is held has the word that the task sees
   line_word : (p k a : ℕ) → place_in ps p ≡ Some k → is_held (table p a) ≡ true → (ls p (a % 16)).word ≡ seen_by (map (λ q. table q a) (take (suc k) ps)) (get_or ws a 0)
@@ -619,29 +603,32 @@ module _ {M : Type 0} (words : M → List ℕ) {sound : M → Type 0} (st : Snoo
       let x = store-uncut (length ps - n) (omega arith) in
       (subst (Laid ws (take (length ps - n) ps)) (sym is) x.0, ap table_by is ∙ x.1)) (cases_lt 0 n)
 
--- the store after a turn
-pub took : {M : Type 0} (words : M → List ℕ) (sound : M → Type 0) (spare : M → List ℕ) (s : SnoopingStore M) (t : Turn) (r : Result ℕ Refusal) (later : SnoopingStore M)
-    → Turned (plain_in words s) t s.report r (words later.memory) (processors_of later.caches) later.caches.list later.report → sound later.memory → spare later.memory ≡ spare s.memory
-    → Took words sound spare s t r later
-took words sound spare s t r later x memory beside =
-    record { answer = x.answer; after = x.after; report = x.report; beside = beside; kept = record { memory = memory; fits = x.fits; lines = x.lines } }
+-- the store after a turn: for the processor that the chain of conditions found, or refused
+pub took : {M : Type 0} (words : M → List ℕ) (sound : M → Type 0) (spare : M → List ℕ) (s : SnoopingStore M) (turn : ℕ → Turn) (p q : ℕ) (r : Result ℕ Refusal) (later : SnoopingStore M) → q ≡ p
+    → Turned (plain_in words s) (turn q) s.report r (words later.memory) (processors_of later.caches) later.caches.list later.report → sound later.memory → spare later.memory ≡ spare s.memory
+    → Took (plain_in words) (Shown words) (λ x. spare x.memory) (SoundSnooping words sound) s (turn p) r later
+took words sound spare s turn p q r later same x memory beside =
+    subst (λ (y : ℕ). Took (plain_in words) (Shown words) (λ z. spare z.memory) (SoundSnooping words sound) s (turn y) r later) same
+    (record {
+      answer = x.answer;
+      after = x.after;
+      shows = record { lines = x.lines ∙ ap lines_of x.after; report = x.report };
+      beside = beside;
+      kept = record { memory = memory; fits = x.fits; lines = x.lines };
+    })
 
-pub took-by-nobody : {M : Type 0} (words : M → List ℕ) (s : SnoopingStore M) (t : Turn) (r : Result ℕ Refusal) (e : Refusal) (p : ℕ) → s.caches.list ≡ lines_of (plain_in words s) → p ≡ processor_of t → Err e ≡ processor_answer p → r ≡ Err e
-    → (r ≡ answer_of (plain_in words s) t) × (plain_in words s ≡ state_after (plain_in words s) t) × Shown words s t s
-took-by-nobody words s t r e p lines p-is is same = go (leb 4 p) refl is
-  where
-    go : (u : Bool) → leb 4 p ≡ u → ◌≡◌ {A = Result ℕ Refusal} (Err e) (cond u (Err NoProcessor) (Ok p)) → (r ≡ answer_of (plain_in words s) t) × (plain_in words s ≡ state_after (plain_in words s) t) × Shown words s t s
-    go true f x =
-        let law = no-processor (plain_in words s) t (ap (leb 4) (sym p-is) ∙ f) in
-        let answer : r ≡ answer_of (plain_in words s) t = same ∙ (x ∙ law.0) in
-        (answer, law.1, record { lines = lines ∙ ap lines_of law.1; report = unreported s.report (plain_in words s) t e (sym same ∙ answer) })
-    go false f x = absurd (no_answer p e (sym x))
-
-pub took-refused : {M : Type 0} (words : M → List ℕ) (sound : M → Type 0) (spare : M → List ℕ) (s : SnoopingStore M) (t : Turn) (r : Result ℕ Refusal) (e : Refusal) (place : Result ℕ Refusal)
-    → SoundSnooping words sound s → Agrees place (refusal_of (plain_in words s) t) → Err e ≡ place → r ≡ Err e → Took words sound spare s t r s
-took-refused words sound spare s t r e place x agrees is same =
-    let law = refused-by (plain_in words s) t r e place agrees is same in
-    record { answer = law.0; after = law.1; report = unreported s.report (plain_in words s) t e (sym same ∙ law.0); beside = refl; kept = x }
+pub took-refused : {M : Type 0} (words : M → List ℕ) (sound : M → Type 0) (spare : M → List ℕ) (s : SnoopingStore M) (t : Turn) (r : Result ℕ Refusal) (e : Refusal) (p : ℕ) (place : Result ℕ Refusal)
+    → SoundSnooping words sound s → Agrees place (refusal_of (plain_in words s) t) → Err e ≡ with_processor p place → r ≡ Err e
+    → Took (plain_in words) (Shown words) (λ x. spare x.memory) (SoundSnooping words sound) s t r s
+took-refused words sound spare s t r e p place x agrees is same =
+    let law = refused-by (plain_in words s) t r e p place agrees is same in
+    record {
+      answer = law.0;
+      after = law.1;
+      shows = record { lines = x.lines ∙ ap lines_of law.1; report = unreported s.report (plain_in words s) t e (sym same ∙ law.0) };
+      beside = refl;
+      kept = x;
+    }
 
 pub hit-parts : (t : Bool) (o : Option ℕ) → (t && not (is_some o)) ≡ true → (t ≡ true) × (o ≡ None)
 hit-parts true None e = (refl, refl)

@@ -25,14 +25,6 @@ pub record Shown {M : Type 0} (words : M → List ℕ) (s : SnoopingStore M) (t 
   pub lines : later.caches.list ≡ lines_of (state_after (plain_in words s) t)
   pub report : later.report ≡ report_after s.report (plain_in words s) t
 
--- a turn taken: the plain store's answer and state after it, the report, and what is kept
-pub record Took {M : Type 0} (words : M → List ℕ) (sound : M → Type 0) (spare : M → List ℕ) (s : SnoopingStore M) (t : Turn) (r : Result ℕ Refusal) (later : SnoopingStore M) : Type 0 where
-  pub answer : r ≡ answer_of (plain_in words s) t
-  pub after : plain_in words later ≡ state_after (plain_in words s) t
-  pub report : later.report ≡ report_after s.report (plain_in words s) t
-  pub beside : spare later.memory ≡ spare s.memory
-  pub kept : SoundSnooping words sound later
-
 -- line c of processor p, for a user who may ask for any
 abbrev pub line_answer : Plain → ℕ → ℕ → Option Line
 line_answer s p c = cond (nat_lt p 4 && nat_lt c 16) (Some (line_of s p c)) None

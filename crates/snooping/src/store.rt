@@ -1,21 +1,18 @@
 // The snooping store: four private caches over any memory, kept in order by a bus. Every refusal is decided before the
 // first line, word or report changes.
 ghost use Rattle.std.specs.Prelude.{◌≡◌, ◌%◌, ◌<◌, ◌≤◌, length, take, Ok, slice_index};
-ghost use Rattle.versions.specs.declared.turn.Turn.TheVariants.{Start, Load, Store, Squash, Commit, Replace};
 ghost use Rattle.versions.specs.Plain.{word_of};
 ghost use Rattle.versions.specs.Versions.{is_own};
 ghost use Rattle.snooping.specs.Caches.{lines_in, table_of, processors_of};
 ghost use Rattle.versions.specs.Tables.{last_that};
 ghost use Rattle.snooping.specs.Report.{quiet, supplied_by};
-ghost use Rattle.snooping.specs.Snooping.{plain_in, SoundSnooping, Took, Shown, line_answer, supplied_word};
+ghost use Rattle.snooping.specs.Snooping.{plain_in, SoundSnooping, Shown, line_answer, supplied_word};
 
 use crate::caches::Caches;
 use crate::line::Line;
 use crate::report::{BusReport, Supplier};
 use memory::Memory;
-use versions::{
-    Answer, Class, Processor, Refusal, TaskTable, Turn, VersionStore, write_back, write_own,
-};
+use versions::{Answer, Class, Processor, Refusal, TaskTable, VersionStore, write_back, write_own};
 
 pub struct SnoopingStore<M> {
     memory: M,
@@ -30,7 +27,7 @@ impl<M: Memory> SnoopingStore<M> {
         ensures { result ≡ line_answer (plain_in M.Memory.words self.now) p c }
     {
         let p = Processor::try_from(p).ok()?;
-        let c = Class::with(c)?;
+        let c = Class::try_from(c).ok()?;
         Some(self.caches.line(p, c))
     }
 
@@ -39,93 +36,6 @@ impl<M: Memory> SnoopingStore<M> {
         ensures { result ≡ self.now.report }
     {
         self.report
-    }
-
-    // Starts a task.
-    fn begin(&mut self, p: Processor) -> Answer
-        requires { SoundSnooping M.Memory.words M.Memory.sound self.old }
-        ensures { Took M.Memory.words M.Memory.sound M.Memory.spare self.old (Start p) result self.new }
-    {
-        let active = self.caches.startable(p)?;
-        self.caches.append(p);
-        self.report = BusReport::quiet();
-        Ok(active as u32)
-    }
-
-    // Loads.
-    fn fetch(&mut self, p: Processor, a: u32) -> Answer
-        requires { SoundSnooping M.Memory.words M.Memory.sound self.old }
-        ensures { Took M.Memory.words M.Memory.sound M.Memory.spare self.old (Load p a) result self.new }
-    {
-        let k = self.caches.access(self.memory.size(), p, a)?;
-        let line = self.caches.line(p, Class::of(a));
-        // A hit alters no line.
-        if line.version(a).is_held() {
-            self.report = BusReport::quiet();
-            return Ok(line.word);
-        }
-        let (w, supplier) = supplied(&mut self.memory, &self.caches, k, a)?;
-        self.caches.fill(p, a, w);
-        self.report = BusReport::bus_read(a, supplier);
-        Ok(w)
-    }
-
-    // Stores.
-    fn put(&mut self, p: Processor, a: u32, w: u32) -> Answer
-        requires { SoundSnooping M.Memory.words M.Memory.sound self.old }
-        ensures { Took M.Memory.words M.Memory.sound M.Memory.spare self.old (Store p a w) result self.new }
-    {
-        let k = self.caches.access(self.memory.size(), p, a)?;
-        let line = self.caches.line(p, Class::of(a));
-        if line.takes_store(a) {
-            self.caches.store_line(p, a, w);
-            self.report = BusReport::quiet();
-            return Ok(0);
-        }
-        // The invalidations go out before the tasks that they squash are gone.
-        let mask = self.caches.invalidated(k + 1, a);
-        let hit = self.caches.squashed(k + 1, a);
-        self.caches.cut_last(hit);
-        self.caches.write(p, a, w);
-        self.report = BusReport::bus_write(a, mask);
-        Ok(hit as u32)
-    }
-
-    // Squashes.
-    fn cut(&mut self, p: Processor) -> Answer
-        requires { SoundSnooping M.Memory.words M.Memory.sound self.old }
-        ensures { Took M.Memory.words M.Memory.sound M.Memory.spare self.old (Squash p) result self.new }
-    {
-        let k = self.caches.squashable(p)?;
-        let active = self.caches.order().len();
-        self.caches.cut(k);
-        self.report = BusReport::quiet();
-        Ok((active - k) as u32)
-    }
-
-    // Replaces.
-    fn give_back(&mut self, p: Processor, a: u32) -> Answer
-        requires { SoundSnooping M.Memory.words M.Memory.sound self.old }
-        ensures { Took M.Memory.words M.Memory.sound M.Memory.spare self.old (Replace p a) result self.new }
-    {
-        self.caches.replaceable(self.memory.size(), p, a)?;
-        let own = self.caches.version(p, a).own;
-        let wrote = write_own(&mut self.memory, a, own);
-        self.caches.end_line(p, a);
-        self.report = BusReport::written_back(wrote);
-        Ok(wrote.words)
-    }
-
-    // Commits.
-    fn retire(&mut self, p: Processor) -> Answer
-        requires { SoundSnooping M.Memory.words M.Memory.sound self.old }
-        ensures { Took M.Memory.words M.Memory.sound M.Memory.spare self.old (Commit p) result self.new }
-    {
-        self.caches.committable(p)?;
-        let wrote = write_back(&mut self.memory, &self.caches, p);
-        self.caches.retire(p);
-        self.report = BusReport::written_back(wrote);
-        Ok(wrote.words)
     }
 }
 
@@ -152,16 +62,67 @@ impl<M: Memory> VersionStore for SnoopingStore<M> {
         }
     }
 
-    fn take_turn(&mut self, turn: Turn) -> Answer {
-        let p = Processor::try_from(turn.processor())?;
-        match turn {
-            Turn::Start { .. } => self.begin(p),
-            Turn::Load { a, .. } => self.fetch(p, a),
-            Turn::Store { a, w, .. } => self.put(p, a, w),
-            Turn::Squash { .. } => self.cut(p),
-            Turn::Commit { .. } => self.retire(p),
-            Turn::Replace { a, .. } => self.give_back(p, a),
+    fn start(&mut self, p: u32) -> Answer {
+        let (p, active) = self.caches.startable(p)?;
+        self.caches.append(p);
+        self.report = BusReport::quiet();
+        Ok(active as u32)
+    }
+
+    fn load(&mut self, p: u32, a: u32) -> Answer {
+        let (p, k) = self.caches.access(self.memory.size(), p, a)?;
+        let line = self.caches.line(p, Class::of(a));
+        // A hit alters no line.
+        if line.version(a).is_held() {
+            self.report = BusReport::quiet();
+            return Ok(line.word);
         }
+        let (w, supplier) = supplied(&mut self.memory, &self.caches, k, a)?;
+        self.caches.fill(p, a, w);
+        self.report = BusReport::bus_read(a, supplier);
+        Ok(w)
+    }
+
+    fn store(&mut self, p: u32, a: u32, w: u32) -> Answer {
+        let (p, k) = self.caches.access(self.memory.size(), p, a)?;
+        let line = self.caches.line(p, Class::of(a));
+        if line.takes_store(a) {
+            self.caches.store_line(p, a, w);
+            self.report = BusReport::quiet();
+            return Ok(0);
+        }
+        // The invalidations go out before the tasks that they squash are gone.
+        let mask = self.caches.invalidated(k + 1, a);
+        let hit = self.caches.squashed(k + 1, a);
+        self.caches.cut_last(hit);
+        self.caches.write(p, a, w);
+        self.report = BusReport::bus_write(a, mask);
+        Ok(hit as u32)
+    }
+
+    fn squash(&mut self, p: u32) -> Answer {
+        let (_, k) = self.caches.squashable(p)?;
+        let active = self.caches.order().len();
+        self.caches.cut(k);
+        self.report = BusReport::quiet();
+        Ok((active - k) as u32)
+    }
+
+    fn commit(&mut self, p: u32) -> Answer {
+        let (p, _) = self.caches.committable(p)?;
+        let wrote = write_back(&mut self.memory, &self.caches, p);
+        self.caches.retire(p);
+        self.report = BusReport::written_back(wrote);
+        Ok(wrote.words)
+    }
+
+    fn replace(&mut self, p: u32, a: u32) -> Answer {
+        let (p, _) = self.caches.replaceable(self.memory.size(), p, a)?;
+        let own = self.caches.version(p, a).own;
+        let wrote = write_own(&mut self.memory, a, own);
+        self.caches.end_line(p, a);
+        self.report = BusReport::written_back(wrote);
+        Ok(wrote.words)
     }
 
     // It changes neither lines nor report.
