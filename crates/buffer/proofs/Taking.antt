@@ -23,4 +23,4 @@ module _ {M : Type 0} (words : M → List ℕ) (sound : M → Type 0) (spare : M
       → sound later.memory → spare later.memory ≡ spare b.memory → Took (plain_in words) (λ _ _ _. Unit {0}) (λ x. spare x.memory) (SoundBuffer words sound) b (turn p) r later
   turn-served turn p q r later same law good beside =
       subst (λ (x : ℕ). Took (plain_in words) (λ _ _ _. Unit {0}) (λ y. spare y.memory) (SoundBuffer words sound) b (turn x) r later) same
-      (record { answer = law.answer; after = law.after; shows = tt; beside = beside; kept = record { memory = good; fits = law.fits } })
+      (record { answer = law.answer; after = law.after; shows = tt; beside = beside; kept = record { memory = good; apart = law.apart; fits = law.fits } })

@@ -1,21 +1,18 @@
 -- A turn that the snooping store serves: from its changes of words, order and lines to the plain store's answer and state,
 -- the lines of that state, and the report.
-use Rattle.std.proofs.Common.{◌≡◌, ℕ, zero, suc, ◌+◌, ◌-◌, ◌%◌, ◌<◌, ◌≤◌, Bool, true, false, cond, not, ◌&&◌, ◌||◌, eqb, leb, List, [], ◌∷◌, ◌++◌, map, length, get_or, take, drop, is_some, Some, None, Ok, Err, Option, Result, unwrap_or, sym, refl, ap, ◌∙◌, subst, ⊎_elim, add-one, arith}
+use Rattle.std.proofs.Common.{◌≡◌, ℕ, zero, suc, ◌+◌, ◌-◌, ◌%◌, ◌<◌, ◌≤◌, Bool, true, false, cond, not, ◌&&◌, ◌||◌, eqb, List, [], ◌∷◌, ◌++◌, map, length, get_or, take, drop, is_some, Some, None, Ok, Err, Option, Result, unwrap_or, sym, refl, ap, ◌∙◌, subst, ⊎_elim, add-one, arith}
 use mathlib.Core.Path.{fun_ext}
 use Rattle.std.specs.Option.{option_map}
 use Rattle.std.proofs.lemmas.List.{drop-take, take-take, take-append-drop, take_all, drop_all, map-append, length-map, length-drop, get_or-drop}
-use Rattle.std.proofs.lemmas.Bool.{eqb-true, eq-eqb, ne_eqb, cases_eq, cases_lt, cond-true, cond-false, true≢false, and_left, and_from, lt-leb}
+use Rattle.std.proofs.lemmas.Bool.{eqb-true, eq-eqb, ne_eqb, cases_eq, cases_lt, cond-true, cond-false, true≢false, and_left, and_from}
 use Rattle.memory.specs.Client.{count_below}
 use Rattle.versions.specs.declared.refusal.Refusal.{Refusal}
-use Rattle.versions.specs.declared.refusal.Refusal.TheVariants.{NoProcessor, TaskActive}
 use Rattle.versions.specs.declared.turn.Turn.{Turn}
 use Rattle.versions.specs.declared.turn.Turn.TheVariants.{Start, Load, Store, Squash, Commit, Replace}
 use Rattle.versions.specs.declared.version.Version.{Version}
 use Rattle.versions.specs.Orders.{place_in, Apart}
 use Rattle.versions.specs.Plain.{Plain, refusal_of, laid_over_all, written_to, answer_of, state_after}
-use Rattle.versions.specs.Processors.{processor_answer}
 use Rattle.versions.specs.Tables.{Table, plain_of, empty_table, with_version, without, without_all, Fitting, with_processor, access_place, start_place, squash_place, commit_place, replace_place, last_own, or_else}
-use Rattle.versions.specs.Turns.{processor_of}
 use Rattle.versions.specs.Versions.{no_version, is_held, is_own, with_load, with_store, laid_over, seen_by, squashed_by}
 use Rattle.versions.proofs.Classes.{unheld-none}
 use Rattle.versions.proofs.Fits.{none-join, without_all-value, front_out}
@@ -44,11 +41,12 @@ use Rattle.snooping.proofs.Holders.{holder-same, holder-none, same-column, seen-
 use Rattle.snooping.proofs.Keeping.{Laid, shown, shows, keep-start, mid, mid-table, keep-change}
 use Rattle.snooping.proofs.Laying.{caches-laid, laid-caches, own-word, some-if, last-seen}
 use Rattle.snooping.proofs.Linking.{relinked-same, relinked-class, relinked-unheld, relinked-held, relinked-table}
-use Rattle.snooping.proofs.Reporting.{no_answer, reported, unreported, report-load, report-store, report-commit, report-replace}
+use Rattle.snooping.proofs.Reporting.{reported, unreported, report-load, report-store, report-commit, report-replace}
 
 pub record Turned (s : Plain) (t : Turn) (old : BusReport) (r : Result ℕ Refusal) (ws ps : List ℕ) (cs : List Cache) (now : BusReport) : Type 0 where
   pub answer : r ≡ answer_of s t
   pub after : plain_of ws ps (table_by (line_in cs)) ≡ state_after s t
+  pub apart : Apart ps
   pub fits : Fitting (length ws) ps (table_by (line_in cs))
   pub lines : cs ≡ lines_of (plain_of ws ps (table_by (line_in cs)))
   pub report : now ≡ report_after old s t
@@ -60,6 +58,7 @@ turned s t old n ws ps cs table now served same wide apart laid report =
     record {
       answer = served.answer;
       after = ap (plain_of ws ps) same ∙ served.after;
+      apart = apart;
       fits = fits;
       lines = caches-laid ws ps cs wide laid apart fits;
       report = report ∙ reported old s t n served.answer;
@@ -287,7 +286,10 @@ module _ (ws ps : List ℕ) (ls : LineTable) (x : Laid ws ps ls) (apart : Apart 
           (λ (class : c ≡ a % 16 → ⊥). relinked-class ps a (with_line ls p (a % 16) y) q c (ne_eqb c (a % 16) class)) (cases_eq c (a % 16))
 
 -- from a state whose lines are those of the plain state
-module _ {M : Type 0} (words : M → List ℕ) {sound : M → Type 0} (st : SnoopingStore M) (kept : SoundSnooping words sound st) (apart : Apart (processors_of st.caches)) where
+module _ {M : Type 0} (words : M → List ℕ) {sound : M → Type 0} (st : SnoopingStore M) (kept : SoundSnooping words sound st) where
+  abbrev apart : Apart (processors_of st.caches)
+  apart = kept.apart
+
   abbrev ws : List ℕ
   ws = words st.memory
 
@@ -614,7 +616,7 @@ took words sound spare s turn p q r later same x memory beside =
       after = x.after;
       shows = record { lines = x.lines ∙ ap lines_of x.after; report = x.report };
       beside = beside;
-      kept = record { memory = memory; fits = x.fits; lines = x.lines };
+      kept = record { memory = memory; apart = x.apart; fits = x.fits; lines = x.lines };
     })
 
 pub took-refused : {M : Type 0} (words : M → List ℕ) (sound : M → Type 0) (spare : M → List ℕ) (s : SnoopingStore M) (t : Turn) (r : Result ℕ Refusal) (e : Refusal) (p : ℕ) (place : Result ℕ Refusal)

@@ -1,8 +1,8 @@
 -- The snooping store over a memory: the plain state that it stands for, its condition, and what it shows of a turn.
-use Rattle.std.specs.Prelude.{◌≡◌, ℕ, cond, ◌&&◌, List, length, Some, None, Option, Result, nat_lt}
-use Rattle.versions.specs.declared.refusal.Refusal.{Refusal}
+use Rattle.std.specs.Prelude.{◌≡◌, ℕ, cond, ◌&&◌, List, length, Some, None, Option, nat_lt}
 use Rattle.versions.specs.declared.turn.Turn.{Turn}
-use Rattle.versions.specs.Plain.{Plain, answer_of, state_after}
+use Rattle.versions.specs.Orders.{Apart}
+use Rattle.versions.specs.Plain.{Plain, state_after}
 use Rattle.versions.specs.Tables.{plain_of, Fitting}
 use Rattle.snooping.specs.declared.line.Line.{Line}
 use Rattle.snooping.specs.declared.store.SnoopingStore.{SnoopingStore}
@@ -17,6 +17,7 @@ plain_in words s = plain_of (words s.memory) (processors_of s.caches) (table_of 
 -- the lines are those of the plain state
 pub record SoundSnooping {M : Type 0} (words : M → List ℕ) (sound : M → Type 0) (s : SnoopingStore M) : Type 0 where
   pub memory : sound s.memory
+  pub apart : Apart (processors_of s.caches)
   pub fits : Fitting (length (words s.memory)) (processors_of s.caches) (table_of s.caches)
   pub lines : s.caches.list ≡ lines_of (plain_in words s)
 

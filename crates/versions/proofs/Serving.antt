@@ -18,6 +18,7 @@ use Rattle.versions.proofs.Classes.{any_below-never}
 use Rattle.versions.proofs.Fits.{fitting-start, fitting-put, fitting-cut, fitting-retire, plain-cut, plain-retire, without_all-value, held-without, parts_none, front_out}
 use Rattle.versions.proofs.Holding.{length-laid_over_all, length-written_to}
 use Rattle.versions.proofs.Judging.{Agrees, refused-turn, accepted-turn, start-agrees, load-agrees, squash-agrees, commit-agrees, replace-agrees, no-place, ok-start, ok-access, ok-squash, ok-commit, ok-replace}
+use Rattle.versions.proofs.Ordering.{apart-push, apart-take, apart-drop}
 use Rattle.versions.proofs.Tabling.{place-take, tasks-same, squashes, squashes-le, given-load, moved-load, given-store, moved_store, given-squash, moved-squash, given-commit, moved-commit, given-replace, moved-replace, given-start, moved-start}
 
 -- a turn that a chain of conditions refused
@@ -34,13 +35,14 @@ accepted-by s t k place agrees is = subst (λ (x : Result ℕ Refusal). Agrees x
 pub record Served (s : Plain) (t : Turn) (r : Result ℕ Refusal) (ws ps : List ℕ) (table : Table) : Type 0 where
   pub answer : r ≡ answer_of s t
   pub after : plain_of ws ps table ≡ state_after s t
+  pub apart : Apart ps
   pub fits : Fitting (length ws) ps table
 
-served : (s : Plain) (t : Turn) (n : ℕ) (ws ps : List ℕ) (table : Table) → refusal_of s t ≡ None → n ≡ given s t → plain_of ws ps table ≡ moved s t → Fitting (length ws) ps table
+served : (s : Plain) (t : Turn) (n : ℕ) (ws ps : List ℕ) (table : Table) → refusal_of s t ≡ None → n ≡ given s t → plain_of ws ps table ≡ moved s t → Apart ps → Fitting (length ws) ps table
     → Served s t (Ok n) ws ps table
-served s t n ws ps table accepted n-is state fits =
+served s t n ws ps table accepted n-is state apart fits =
     let a = accepted-turn s t accepted in
-    record { answer = ap Ok n-is ∙ a.0; after = state ∙ a.1; fits = fits }
+    record { answer = ap Ok n-is ∙ a.0; after = state ∙ a.1; apart = apart; fits = fits }
 
 -- the class of a is free for a: what the task holds of it is a itself
 pub class-free : (n : ℕ) (ps : List ℕ) (table : Table) (p a : ℕ) → Fitting n ps table → holds_class (task_by table p) a n ≡ false
@@ -63,7 +65,7 @@ module _ (ws ps : List ℕ) (table : Table) (apart : Apart ps) (x : Fitting (len
       (subst (λ (l : List ℕ). Served (plain_of ws ps table) (Start p) (Ok k) ws l table) (sym order)
       (served (plain_of ws ps table) (Start p) k ws (ps ++ p ∷ []) table
       (accepted-by (plain_of ws ps table) (Start p) k (start_place ps p) (start-agrees ws ps table p) ok)
-      (y.2 ∙ sym (given-start ws ps table p)) (sym (moved-start ws ps table p (x.idle p y.0))) (fitting-start (length ws) ps table p x)))
+      (y.2 ∙ sym (given-start ws ps table p)) (sym (moved-start ws ps table p (x.idle p y.0))) (apart-push ps p apart y.1 y.0) (fitting-start (length ws) ps table p x)))
 
   -- a load
   pub serve-load : (p a k w : ℕ) (ws' : List ℕ) (later : List ℕ) (table' : Table) → Ok k ≡ access_place (length ws) ps table p a
@@ -80,6 +82,7 @@ module _ (ws ps : List ℕ) (table : Table) (apart : Apart ps) (x : Fitting (len
       (accepted-by (plain_of ws ps table) (Load p a) k (access_place (length ws) ps table p a) (load-agrees ws ps table p a) ok)
       (seen ∙ sym (given-load ws ps table p k apart y.0 a))
       (sym (moved-load ws ps table p k apart y.0 a))
+      apart
       (fitting-put (length ws) ps table p k a (with_load (table p a)) x y.0 y.2 (class-free (length ws) ps table p a x y.3)))))
 
   -- a squash
@@ -93,6 +96,7 @@ module _ (ws ps : List ℕ) (table : Table) (apart : Apart ps) (x : Fitting (len
       (accepted-by (plain_of ws ps table) (Squash p) k (squash_place ps p) (squash-agrees ws ps table p) ok)
       (n-is ∙ sym (given-squash ws ps table p k apart y.0))
       (plain-cut ws ps table k apart ∙ sym (moved-squash ws ps table p k apart y.0))
+      (apart-take k ps apart)
       (fitting-cut (length ws) ps table k x)))
 
   -- a commit
@@ -109,6 +113,7 @@ module _ (ws ps : List ℕ) (table : Table) (apart : Apart ps) (x : Fitting (len
       (accepted-by (plain_of ws ps table) (Commit p) k (commit_place ps p) (commit-agrees ws ps table p) ok)
       (n-is ∙ sym (given-commit ws ps table p k apart y.0))
       (plain-retire ws₂ ps table p apart first ∙ sym (moved-commit ws ps table p k apart y.0 y.2))
+      (apart-drop ps apart)
       (subst (λ (m : ℕ). Fitting m (drop 1 ps) (without table p)) (sym (length-laid_over_all (table p) ws)) (fitting-retire (length ws) ps table p x first)))))
 
   -- a replacement
@@ -125,6 +130,7 @@ module _ (ws ps : List ℕ) (table : Table) (apart : Apart ps) (x : Fitting (len
       (accepted-by (plain_of ws ps table) (Replace p a) k (replace_place (length ws) ps table p a) (replace-agrees ws ps table p a) ok)
       (n-is ∙ sym (given-replace ws ps table p k apart y.0 a))
       (sym (moved-replace ws ps table p k apart y.0 a))
+      apart
       (subst (λ (m : ℕ). Fitting m ps new) (sym (length-written_to (table p a).own a ws))
       (fitting-put (length ws) ps table p k a no_version x y.0 y.2 (replaced-class p a y.4))))))
     where
@@ -162,6 +168,7 @@ module _ (ws ps : List ℕ) (table : Table) (apart : Apart ps) (x : Fitting (len
       (accepted-by (plain_of ws ps table) (Store p a w) k (access_place (length ws) ps table p a) (load-agrees ws ps table p a) ok)
       (n-is ∙ sym (given-store ws ps table p k apart y.0 a w))
       (agree ∙ sym (moved_store ws ps table p k apart y.0 a w ∙ ap (λ (j : ℕ). plain_of ws (take (length ps - j) ps) plain-new) (sym n-is)))
+      (apart-take m ps apart)
       (fitting-put (length ws) (take m ps) less p k a (with_store w (less p a)) (fitting-cut (length ws) ps table m x) (place-take m ps p k y.0 le) y.2 class)))
     where
       front_kept : (q j m : ℕ) → place_in (take m ps) q ≡ Some j → (b : ℕ) → without_all table (drop m ps) q b ≡ table q b

@@ -11,7 +11,8 @@ pub struct Order {
     list: ArrayVec<Processor, 4>,
 }
 
-// A clause sees an order as its processors.
+// A clause sees an order as its processors. That they are apart, other crates do not see of the type: the calls that they use
+// say it.
 impl Model for Order {
     ghost use Rattle.std.specs.Prelude.{ℕ, List};
 
@@ -73,6 +74,7 @@ impl Order {
         requires { place_in self.old p ≡ None }
         ensures { self.new ≡ self.old ++ p ∷ [] }
     {
+        // Asked for its bound, which the list needs.
         let _ = p.number();
         self.list.push(p);
     }

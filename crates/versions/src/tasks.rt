@@ -1,7 +1,6 @@
 // The active tasks of a version store: their order, and each one's version at each address. What follows from those two
 // alone is written and proved here, once for every store that keeps them.
 ghost use Rattle.std.specs.Prelude.{◌≡◌, ℕ, ◌<◌, ◌≤◌, List, map, length, take, drop, IfOk};
-ghost use Rattle.versions.specs.Orders.{Apart};
 ghost use Rattle.versions.specs.Plain.{holds_class};
 ghost use Rattle.versions.specs.Tables.{Table, task_by, Fitting, HeldIn, last_that, with_processor, start_place, active_place, access_place, squash_place, commit_place, replace_place};
 ghost use Rattle.versions.specs.Versions.{is_own, squashed_by};
@@ -72,7 +71,6 @@ pub trait TaskTable {
     fn startable(&self, p: u32) -> Result<(Processor, usize), Refusal>
         ensures value { result ≡ with_processor p (start_place (processors self.now) p) }
         ensures bound { IfOk result (λ x. x.1 ≤ 4) }
-        ensures apart { IfOk result (λ _. Apart (processors self.now)) }
     {
         let p = Processor::try_from(p)?;
         if self.order().place(p.number()).is_some() {
@@ -83,8 +81,7 @@ pub trait TaskTable {
 
     // The processor p, and the place of its task, unless it has none.
     fn active(&self, p: u32) -> Result<(Processor, usize), Refusal>
-        ensures value { result ≡ with_processor p (active_place (processors self.now) p) }
-        ensures apart { IfOk result (λ _. Apart (processors self.now)) }
+        ensures { result ≡ with_processor p (active_place (processors self.now) p) }
     {
         let p = Processor::try_from(p)?;
         let k = self.order().place(p.number()).ok_or(Refusal::NoTask)?;
@@ -94,8 +91,7 @@ pub trait TaskTable {
     // The same, unless p may not load or store at a, in a memory of n words.
     fn access(&self, n: u32, p: u32, a: u32) -> Result<(Processor, usize), Refusal>
         requires { Fitting n (processors self.now) (table self.now) }
-        ensures value { result ≡ with_processor p (access_place n (processors self.now) (table self.now) p a) }
-        ensures apart { IfOk result (λ _. Apart (processors self.now)) }
+        ensures { result ≡ with_processor p (access_place n (processors self.now) (table self.now) p a) }
     {
         let (p, k) = self.active(p)?;
         if a >= n {
@@ -109,8 +105,7 @@ pub trait TaskTable {
 
     // The same, unless p may not be squashed.
     fn squashable(&self, p: u32) -> Result<(Processor, usize), Refusal>
-        ensures value { result ≡ with_processor p (squash_place (processors self.now) p) }
-        ensures apart { IfOk result (λ _. Apart (processors self.now)) }
+        ensures { result ≡ with_processor p (squash_place (processors self.now) p) }
     {
         match self.active(p)? {
             (_, 0) => Err(Refusal::IsHead),
@@ -120,8 +115,7 @@ pub trait TaskTable {
 
     // The same, unless p may not commit.
     fn committable(&self, p: u32) -> Result<(Processor, usize), Refusal>
-        ensures value { result ≡ with_processor p (commit_place (processors self.now) p) }
-        ensures apart { IfOk result (λ _. Apart (processors self.now)) }
+        ensures { result ≡ with_processor p (commit_place (processors self.now) p) }
     {
         match self.active(p)? {
             (p, 0) => Ok((p, 0)),
@@ -131,8 +125,7 @@ pub trait TaskTable {
 
     // The same, unless p may not replace a, in a memory of n words.
     fn replaceable(&self, n: u32, p: u32, a: u32) -> Result<(Processor, usize), Refusal>
-        ensures value { result ≡ with_processor p (replace_place n (processors self.now) (table self.now) p a) }
-        ensures apart { IfOk result (λ _. Apart (processors self.now)) }
+        ensures { result ≡ with_processor p (replace_place n (processors self.now) (table self.now) p a) }
     {
         let (p, k) = self.active(p)?;
         if a >= n {

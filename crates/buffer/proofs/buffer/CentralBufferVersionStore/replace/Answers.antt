@@ -17,7 +17,7 @@ returns-in_err-p g c =
     let q = err_from_is_err_and c.from_residual.result c.from_residual.ensures.1 in
     let place = λ (n : ℕ). replace_place n b.tasks.order (table_of b.tasks) c.args.p c.args.a in
     turn-refused m.words m.sound m.spare b (Replace c.args.p c.args.a) c.from_residual.result c.in_err-p.field-0.0 c.args.p (place _) c.requires
-    (replace-agrees (m.words b.memory) b.tasks.order (table_of b.tasks) c.args.p c.args.a) (c.in_err-p.ensures.value ∙ ap (λ (n : ℕ). with_processor c.args.p (place n)) c.size.ensures) (q.1 ∙ ap Err q.2)
+    (replace-agrees (m.words b.memory) b.tasks.order (table_of b.tasks) c.args.p c.args.a) (c.in_err-p.ensures ∙ ap (λ (n : ℕ). with_processor c.args.p (place n)) c.size.ensures) (q.1 ∙ ap Err q.2)
 
 pub returns : goal.returns
 returns g c =
@@ -27,10 +27,10 @@ returns g c =
     let ws = m.words b.memory in
     let ps = b.tasks.order in
     let table = table_of b.tasks in
-    let at = at-processor c.args.p c.in_ok-p.p c.in_ok-p.field-0-1 (λ (p : ℕ). replace_place c.size.result ps table p a) c.in_ok-p.ensures.value in
+    let at = at-processor c.args.p c.in_ok-p.p c.in_ok-p.field-0-1 (λ (p : ℕ). replace_place c.size.result ps table p a) c.in_ok-p.ensures in
     let own : c.version-own.result.own ≡ (table c.in_ok-p.p a).own = ap (λ (v : Version). v.own) c.version-own.ensures in
     turn-served m.words m.sound m.spare b (λ (p : ℕ). Replace p a) c.args.p c.in_ok-p.p _ _ at.0
-    (serve-replace ws ps table c.in_ok-p.ensures.apart c.requires.fits c.in_ok-p.p a c.in_ok-p.field-0-1 c.write_own-wrote.result.words
+    (serve-replace ws ps table c.requires.apart c.requires.fits c.in_ok-p.p a c.in_ok-p.field-0-1 c.write_own-wrote.result.words
     (m.words c.write_own-wrote.new.memory) c.put.new.self.order (table_of c.put.new.self)
     (at.1 ∙ ap (λ (n : ℕ). replace_place n ps table c.in_ok-p.p a) c.size.ensures)
     (c.write_own-wrote.ensures.count ∙ ap (λ (o : Option ℕ). cond (is_some o) 1 0) own)

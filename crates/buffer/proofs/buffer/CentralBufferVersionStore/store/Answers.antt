@@ -18,13 +18,13 @@ returns-in_err-p g c =
     let q = err_from_is_err_and c.from_residual.result c.from_residual.ensures.1 in
     let place = λ (n : ℕ). access_place n b.tasks.order (table_of b.tasks) c.args.p c.args.a in
     turn-refused m.words m.sound m.spare b (Store c.args.p c.args.a c.args.w) c.from_residual.result c.in_err-p.field-0.0 c.args.p (place _) c.requires
-    (load-agrees (m.words b.memory) b.tasks.order (table_of b.tasks) c.args.p c.args.a) (c.in_err-p.ensures.value ∙ ap (λ (n : ℕ). with_processor c.args.p (place n)) c.size.ensures) (q.1 ∙ ap Err q.2)
+    (load-agrees (m.words b.memory) b.tasks.order (table_of b.tasks) c.args.p c.args.a) (c.in_err-p.ensures ∙ ap (λ (n : ℕ). with_processor c.args.p (place n)) c.size.ensures) (q.1 ∙ ap Err q.2)
 
 pub overflow_add-k : goal.overflow_add-k
 overflow_add-k g c =
     let b = c.args.self.now in
     let ps = b.tasks.order in
-    let at = at-processor c.args.p c.in_ok-p.p c.in_ok-p.k (λ (p : ℕ). access_place c.size.result ps (table_of b.tasks) p c.args.a) c.in_ok-p.ensures.value in
+    let at = at-processor c.args.p c.in_ok-p.p c.in_ok-p.k (λ (p : ℕ). access_place c.size.result ps (table_of b.tasks) p c.args.a) c.in_ok-p.ensures in
     let y = ok-access c.size.result ps (table_of b.tasks) c.in_ok-p.p c.args.a c.in_ok-p.k at.1 in
     omega (arith, (placed ps c.in_ok-p.p c.in_ok-p.k y.0).within, c.len-active.ensures.value ∙ ap length c.order.ensures)
 
@@ -32,7 +32,7 @@ pub overflow_sub-active : goal.overflow_sub-active
 overflow_sub-active g c =
     let b = c.args.self.now in
     let ps = b.tasks.order in
-    let at = at-processor c.args.p c.in_ok-p.p c.in_ok-p.k (λ (p : ℕ). access_place c.size.result ps (table_of b.tasks) p c.args.a) c.in_ok-p.ensures.value in
+    let at = at-processor c.args.p c.in_ok-p.p c.in_ok-p.k (λ (p : ℕ). access_place c.size.result ps (table_of b.tasks) p c.args.a) c.in_ok-p.ensures in
     let y = ok-access c.size.result ps (table_of b.tasks) c.in_ok-p.p c.args.a c.in_ok-p.k at.1 in
     let hit = hit-is (table_of b.tasks) ps c.in_ok-p.k c.args.a c.squashed-hit.result c.squashed-hit.ensures in
     let long = c.len-active.ensures.value ∙ ap length c.order.ensures in
@@ -42,7 +42,7 @@ pub overflow_cast-result : goal.overflow_cast-result
 overflow_cast-result g c =
     let b = c.args.self.now in
     let ps = b.tasks.order in
-    let at = at-processor c.args.p c.in_ok-p.p c.in_ok-p.k (λ (p : ℕ). access_place c.size.result ps (table_of b.tasks) p c.args.a) c.in_ok-p.ensures.value in
+    let at = at-processor c.args.p c.in_ok-p.p c.in_ok-p.k (λ (p : ℕ). access_place c.size.result ps (table_of b.tasks) p c.args.a) c.in_ok-p.ensures in
     let y = ok-access c.size.result ps (table_of b.tasks) c.in_ok-p.p c.args.a c.in_ok-p.k at.1 in
     let hit = hit-is (table_of b.tasks) ps c.in_ok-p.k c.args.a c.squashed-hit.result c.squashed-hit.ensures in
     let long = c.len-active.ensures.value ∙ ap length c.order.ensures in
@@ -54,7 +54,7 @@ put-requires g c =
     let ps = b.tasks.order in
     let table = table_of b.tasks in
     let n = length (g.M.Memory.words b.memory) in
-    let at = at-processor c.args.p c.in_ok-p.p c.in_ok-p.k (λ (p : ℕ). access_place c.size.result ps table p c.args.a) c.in_ok-p.ensures.value in
+    let at = at-processor c.args.p c.in_ok-p.p c.in_ok-p.k (λ (p : ℕ). access_place c.size.result ps table p c.args.a) c.in_ok-p.ensures in
     let y = ok-access n ps table c.in_ok-p.p c.args.a c.in_ok-p.k (at.1 ∙ ap (λ (n : ℕ). access_place n ps table c.in_ok-p.p c.args.a) c.size.ensures) in
     subst (λ (t : Table). HoldsNoOther (t c.in_ok-p.p) c.args.a) (sym c.cut.ensures.table)
     (λ x held class. class-free n ps table c.in_ok-p.p c.args.a c.requires.fits y.3 x
@@ -68,12 +68,12 @@ returns g c =
     let w = c.args.w in
     let ps = b.tasks.order in
     let table = table_of b.tasks in
-    let at = at-processor c.args.p c.in_ok-p.p c.in_ok-p.k (λ (p : ℕ). access_place c.size.result ps table p a) c.in_ok-p.ensures.value in
+    let at = at-processor c.args.p c.in_ok-p.p c.in_ok-p.k (λ (p : ℕ). access_place c.size.result ps table p a) c.in_ok-p.ensures in
     let hit = hit-is table ps c.in_ok-p.k a c.squashed-hit.result c.squashed-hit.ensures in
     let long = c.len-active.ensures.value ∙ ap length c.order.ensures in
     let left : c.len-active.result - c.squashed-hit.result ≡ length ps - c.squashed-hit.result = ap (λ (n : ℕ). n - c.squashed-hit.result) long in
     turn-served m.words m.sound m.spare b (λ (p : ℕ). Store p a w) c.args.p c.in_ok-p.p (Ok c.squashed-hit.result) _ at.0
-    (serve-store (m.words b.memory) ps table c.in_ok-p.ensures.apart c.requires.fits c.in_ok-p.p a w c.in_ok-p.k c.squashed-hit.result
+    (serve-store (m.words b.memory) ps table c.requires.apart c.requires.fits c.in_ok-p.p a w c.in_ok-p.k c.squashed-hit.result
     c.put.new.self.order (table_of c.cut.new.self) (table_of c.put.new.self)
     (at.1 ∙ ap (λ (n : ℕ). access_place n ps table c.in_ok-p.p a) c.size.ensures) hit
     (c.put.ensures.order ∙ (c.cut.ensures.order ∙ ap (λ (n : ℕ). take n ps) left))

@@ -13,15 +13,15 @@ returns-in_err-p g c =
     let s = c.args.self.now in
     let q = err_from_is_err_and c.from_residual.result c.from_residual.ensures.1 in
     took-refused m.words m.sound m.spare s (Commit c.args.p) c.from_residual.result c.in_err-p.field-0.0 c.args.p (commit_place (processors_of s.caches) c.args.p) c.requires (commit-agrees (m.words s.memory) (processors_of s.caches) (table_of s.caches) c.args.p)
-    c.in_err-p.ensures.value (q.1 ∙ ap Err q.2)
+    c.in_err-p.ensures (q.1 ∙ ap Err q.2)
 
 pub returns : goal.returns
 returns g c =
     let m = g.M.Memory in
     let s = c.args.self.now in
-    let at = at-processor c.args.p c.in_ok-p.p c.in_ok-p.field-0-1 (commit_place (processors_of s.caches)) c.in_ok-p.ensures.value in
+    let at = at-processor c.args.p c.in_ok-p.p c.in_ok-p.field-0-1 (commit_place (processors_of s.caches)) c.in_ok-p.ensures in
     let wrote = c.write_back-wrote in
     took m.words m.sound m.spare s (λ (p : ℕ). Commit p) c.args.p c.in_ok-p.p (Ok wrote.result.words) _ at.0
-    (turn-commit m.words s c.requires c.in_ok-p.ensures.apart c.in_ok-p.p c.in_ok-p.field-0-1 wrote.result.words wrote.result.last
+    (turn-commit m.words s c.requires c.in_ok-p.p c.in_ok-p.field-0-1 wrote.result.words wrote.result.last
     (m.words wrote.new.memory) (processors_of c.retire.new.self) c.retire.new.self.list c.written_back-self.result at.1 wrote.ensures.count wrote.ensures.last wrote.ensures.words
     c.retire.ensures.order c.retire.ensures.lines c.retire.new.self.wide c.written_back-self.ensures) wrote.ensures.kept wrote.ensures.beside

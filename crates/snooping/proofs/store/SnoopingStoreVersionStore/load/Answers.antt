@@ -25,17 +25,17 @@ returns-in_err-p g c =
     let s = c.args.self.now in
     let q = err_from_is_err_and c.from_residual.result c.from_residual.ensures.1 in
     took-refused m.words m.sound m.spare s (Load c.args.p c.args.a) c.from_residual.result c.in_err-p.field-0.0 c.args.p (access_place (length (m.words s.memory)) (processors_of s.caches) (table_of s.caches) c.args.p c.args.a) c.requires (load-agrees (m.words s.memory) (processors_of s.caches) (table_of s.caches) c.args.p c.args.a)
-    (c.in_err-p.ensures.value ∙ ap (λ (n : ℕ). with_processor c.args.p (access_place n (processors_of s.caches) (table_of s.caches) c.args.p c.args.a)) c.size.ensures) (q.1 ∙ ap Err q.2)
+    (c.in_err-p.ensures ∙ ap (λ (n : ℕ). with_processor c.args.p (access_place n (processors_of s.caches) (table_of s.caches) c.args.p c.args.a)) c.size.ensures) (q.1 ∙ ap Err q.2)
 
 pub returns-then-is_held : goal.returns-then-is_held
 returns-then-is_held g c =
     let m = g.M.Memory in
     let s = c.args.self.now in
-    let at = at-processor c.args.p c.in_ok-p.p c.in_ok-p.k (λ (p : ℕ). access_place c.size.result (processors_of s.caches) (table_of s.caches) p c.args.a) c.in_ok-p.ensures.value in
+    let at = at-processor c.args.p c.in_ok-p.p c.in_ok-p.k (λ (p : ℕ). access_place c.size.result (processors_of s.caches) (table_of s.caches) p c.args.a) c.in_ok-p.ensures in
     let line = c.line-line.ensures ∙ ap (lines_in s.caches c.in_ok-p.p) c.of.ensures in
     let version = c.version.ensures ∙ ap (λ (x : Line). version_at x c.args.a) line in
     took m.words m.sound m.spare s (λ (p : ℕ). Load p c.args.a) c.args.p c.in_ok-p.p (Ok c.line-line.result.word) _ at.0
-    (turn-load-hit m.words s c.requires c.in_ok-p.ensures.apart c.in_ok-p.p c.args.a c.in_ok-p.k c.line-line.result.word c.quiet-self.result
+    (turn-load-hit m.words s c.requires c.in_ok-p.p c.args.a c.in_ok-p.k c.line-line.result.word c.quiet-self.result
     (at.1 ∙ ap (λ (n : ℕ). access_place n (processors_of s.caches) (table_of s.caches) c.in_ok-p.p c.args.a) c.size.ensures)
     (ap is_held (sym version) ∙ (sym c.is_held.ensures ∙ c.if-is_held.true)) (ap (λ (x : Line). x.word) line) c.quiet-self.ensures) c.requires.memory refl
 
@@ -43,14 +43,14 @@ pub supplied-requires-clause-k_in_bounds : goal.supplied-requires-clause-k_in_bo
 supplied-requires-clause-k_in_bounds g c =
     let s = c.args.self.now in
     let ps = processors_of s.caches in
-    let at = at-processor c.args.p c.in_ok-p.p c.in_ok-p.k (λ (p : ℕ). access_place c.size.result ps (table_of s.caches) p c.args.a) c.in_ok-p.ensures.value in
+    let at = at-processor c.args.p c.in_ok-p.p c.in_ok-p.k (λ (p : ℕ). access_place c.size.result ps (table_of s.caches) p c.args.a) c.in_ok-p.ensures in
     omega (arith, (placed ps c.in_ok-p.p c.in_ok-p.k (ok-access c.size.result ps (table_of s.caches) c.in_ok-p.p c.args.a c.in_ok-p.k at.1).0).within)
 
 pub returns : goal.returns
 returns g c =
     let m = g.M.Memory in
     let s = c.args.self.now in
-    let at = at-processor c.args.p c.in_ok-p.p c.in_ok-p.k (λ (p : ℕ). access_place c.size.result (processors_of s.caches) (table_of s.caches) p c.args.a) c.in_ok-p.ensures.value in
+    let at = at-processor c.args.p c.in_ok-p.p c.in_ok-p.k (λ (p : ℕ). access_place c.size.result (processors_of s.caches) (table_of s.caches) p c.args.a) c.in_ok-p.ensures in
     let a = c.args.a in
     let line = c.line-line.ensures ∙ ap (lines_in s.caches c.in_ok-p.p) c.of.ensures in
     let version = c.version.ensures ∙ ap (λ (x : Line). version_at x a) line in
@@ -58,7 +58,7 @@ returns g c =
     let nearest = last_that (λ (q : ℕ). is_own (table_of s.caches q a)) (take c.in_ok-p.k (processors_of s.caches)) in
     let given : (w, c.in_ok-w.supplier) ≡ (supplied_word (lines_in s.caches) (a % 16) (get_or (m.words s.memory) a 0) nearest, supplied_by nearest) = same_pair _ _ c.in_ok-w.ensures.answer in
     took m.words m.sound m.spare s (λ (p : ℕ). Load p a) c.args.p c.in_ok-p.p (Ok w) _ at.0
-    (turn-load-miss m.words s c.requires c.in_ok-p.ensures.apart c.in_ok-p.p a c.in_ok-p.k w nearest
+    (turn-load-miss m.words s c.requires c.in_ok-p.p a c.in_ok-p.k w nearest
     (m.words c.supplied.new.memory) (processors_of c.fill.new.self) c.fill.new.self.list c.bus_read-self.result
     (at.1 ∙ ap (λ (n : ℕ). access_place n (processors_of s.caches) (table_of s.caches) c.in_ok-p.p c.args.a) c.size.ensures)
     (ap is_held (sym version) ∙ (sym c.is_held.ensures ∙ c.if-is_held.false)) refl (ap (λ (x : ℕ × Supplier). x.0) given) c.supplied.ensures.words c.fill.ensures.order

@@ -17,4 +17,4 @@ returns-clause-kept g c =
     let table_is : table_of x ≡ empty_table = ap table_by c.new.ensures.lines ∙ blank-table in
     let fits : Fitting (length ws) (processors_of x) (table_of x) = subst (λ (ps : List ℕ). Fitting (length ws) ps (table_of x)) (sym e) (subst (Fitting (length ws) []) (sym table_is) (fitting-empty (length ws))) in
     let laid : Laid ws (processors_of x) (lines_in x) = subst (λ (ps : List ℕ). Laid ws ps (lines_in x)) (sym e) (subst (Laid ws []) (sym c.new.ensures.lines) (laid-empty ws)) in
-    record { memory = c.requires; fits = fits; lines = caches-laid ws (processors_of x) x.list x.wide laid (subst Apart (sym e) tt) fits }
+    record { memory = c.requires; apart = subst Apart (sym e) tt; fits = fits; lines = caches-laid ws (processors_of x) x.list x.wide laid (subst Apart (sym e) tt) fits }

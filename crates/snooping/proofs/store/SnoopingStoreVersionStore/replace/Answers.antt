@@ -21,18 +21,18 @@ returns-in_err-p g c =
     let s = c.args.self.now in
     let q = err_from_is_err_and c.from_residual.result c.from_residual.ensures.1 in
     took-refused m.words m.sound m.spare s (Replace c.args.p c.args.a) c.from_residual.result c.in_err-p.field-0.0 c.args.p (replace_place (length (m.words s.memory)) (processors_of s.caches) (table_of s.caches) c.args.p c.args.a) c.requires (replace-agrees (m.words s.memory) (processors_of s.caches) (table_of s.caches) c.args.p c.args.a)
-    (c.in_err-p.ensures.value ∙ ap (λ (n : ℕ). with_processor c.args.p (replace_place n (processors_of s.caches) (table_of s.caches) c.args.p c.args.a)) c.size.ensures) (q.1 ∙ ap Err q.2)
+    (c.in_err-p.ensures ∙ ap (λ (n : ℕ). with_processor c.args.p (replace_place n (processors_of s.caches) (table_of s.caches) c.args.p c.args.a)) c.size.ensures) (q.1 ∙ ap Err q.2)
 
 pub returns : goal.returns
 returns g c =
     let m = g.M.Memory in
     let s = c.args.self.now in
-    let at = at-processor c.args.p c.in_ok-p.p c.in_ok-p.field-0-1 (λ (p : ℕ). replace_place c.size.result (processors_of s.caches) (table_of s.caches) p c.args.a) c.in_ok-p.ensures.value in
+    let at = at-processor c.args.p c.in_ok-p.p c.in_ok-p.field-0-1 (λ (p : ℕ). replace_place c.size.result (processors_of s.caches) (table_of s.caches) p c.args.a) c.in_ok-p.ensures in
     let n = c.write_own-wrote.result.words in
     let held = c.version-own.result.own in
     let own : held ≡ (table_of s.caches c.in_ok-p.p c.args.a).own = ap (λ (v : Version). v.own) c.version-own.ensures in
     took m.words m.sound m.spare s (λ (p : ℕ). Replace p c.args.a) c.args.p c.in_ok-p.p (Ok n) _ at.0
-    (turn-replace m.words s c.requires c.in_ok-p.ensures.apart c.in_ok-p.p c.args.a c.in_ok-p.field-0-1 n
+    (turn-replace m.words s c.requires c.in_ok-p.p c.args.a c.in_ok-p.field-0-1 n
     (m.words c.write_own-wrote.new.memory) (processors_of c.end_line.new.self) c.end_line.new.self.list c.written_back-self.result
     (at.1 ∙ ap (λ (n : ℕ). replace_place n (processors_of s.caches) (table_of s.caches) c.in_ok-p.p c.args.a) c.size.ensures)
     (c.write_own-wrote.ensures.count ∙ ap (λ (o : Option ℕ). cond (is_some o) 1 0) own) (c.write_own-wrote.ensures.words ∙ ap (λ (o : Option ℕ). written_to o c.args.a (m.words s.memory)) own)

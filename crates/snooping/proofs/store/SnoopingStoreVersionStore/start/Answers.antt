@@ -21,6 +21,6 @@ returns g c =
     let s = c.args.self.now in
     let at = at-processor c.args.p c.in_ok-p.p c.in_ok-p.active (start_place (processors_of s.caches)) c.in_ok-p.ensures.value in
     took m.words m.sound m.spare s (λ (p : ℕ). Start p) c.args.p c.in_ok-p.p (Ok c.in_ok-p.active) _ at.0
-    (turn-start m.words s c.requires c.in_ok-p.ensures.apart c.in_ok-p.p c.in_ok-p.active
+    (turn-start m.words s c.requires c.in_ok-p.p c.in_ok-p.active
     (processors_of c.append.new.self) c.append.new.self.list c.quiet-self.result
     at.1 c.append.ensures.order c.append.ensures.list c.quiet-self.ensures) c.requires.memory refl

@@ -21,20 +21,20 @@ returns-in_err-p g c =
     let s = c.args.self.now in
     let q = err_from_is_err_and c.from_residual.result c.from_residual.ensures.1 in
     took-refused m.words m.sound m.spare s (Store c.args.p c.args.a c.args.w) c.from_residual.result c.in_err-p.field-0.0 c.args.p (access_place (length (m.words s.memory)) (processors_of s.caches) (table_of s.caches) c.args.p c.args.a) c.requires (load-agrees (m.words s.memory) (processors_of s.caches) (table_of s.caches) c.args.p c.args.a)
-    (c.in_err-p.ensures.value ∙ ap (λ (n : ℕ). with_processor c.args.p (access_place n (processors_of s.caches) (table_of s.caches) c.args.p c.args.a)) c.size.ensures) (q.1 ∙ ap Err q.2)
+    (c.in_err-p.ensures ∙ ap (λ (n : ℕ). with_processor c.args.p (access_place n (processors_of s.caches) (table_of s.caches) c.args.p c.args.a)) c.size.ensures) (q.1 ∙ ap Err q.2)
 
 pub returns-then-takes_store : goal.returns-then-takes_store
 returns-then-takes_store g c =
     let m = g.M.Memory in
     let s = c.args.self.now in
-    let at = at-processor c.args.p c.in_ok-p.p c.in_ok-p.k (λ (p : ℕ). access_place c.size.result (processors_of s.caches) (table_of s.caches) p c.args.a) c.in_ok-p.ensures.value in
+    let at = at-processor c.args.p c.in_ok-p.p c.in_ok-p.k (λ (p : ℕ). access_place c.size.result (processors_of s.caches) (table_of s.caches) p c.args.a) c.in_ok-p.ensures in
     let line = c.line-line.ensures ∙ ap (lines_in s.caches c.in_ok-p.p) c.of.ensures in
     let own = is_own (table_of s.caches c.in_ok-p.p c.args.a) in
     let next = (lines_in s.caches c.in_ok-p.p (c.args.a % 16)).next in
     let test : (own && not (is_some next)) ≡ true = ap (λ (x : Line). is_own (version_at x c.args.a) && not (is_some x.next)) (sym line) ∙ (sym c.takes_store.ensures ∙ c.if-takes_store.true) in
     let parts = hit-parts own next test in
     took m.words m.sound m.spare s (λ (p : ℕ). Store p c.args.a c.args.w) c.args.p c.in_ok-p.p (Ok 0) _ at.0
-    (turn-store-hit m.words s c.requires c.in_ok-p.ensures.apart c.in_ok-p.p c.args.a c.args.w c.in_ok-p.k
+    (turn-store-hit m.words s c.requires c.in_ok-p.p c.args.a c.args.w c.in_ok-p.k
     (processors_of c.store_line.new.self) c.store_line.new.self.list c.quiet-self.result
     (at.1 ∙ ap (λ (n : ℕ). access_place n (processors_of s.caches) (table_of s.caches) c.in_ok-p.p c.args.a) c.size.ensures)
     parts.0 parts.1 c.store_line.ensures.order c.store_line.ensures.lines c.store_line.new.self.wide c.quiet-self.ensures) c.requires.memory refl
@@ -43,14 +43,14 @@ pub overflow_add-k : goal.overflow_add-k
 overflow_add-k g c =
     let s = c.args.self.now in
     let ps = processors_of s.caches in
-    let at = at-processor c.args.p c.in_ok-p.p c.in_ok-p.k (λ (p : ℕ). access_place c.size.result ps (table_of s.caches) p c.args.a) c.in_ok-p.ensures.value in
-    omega (arith, (placed ps c.in_ok-p.p c.in_ok-p.k (ok-access c.size.result ps (table_of s.caches) c.in_ok-p.p c.args.a c.in_ok-p.k at.1).0).within, few ps c.in_ok-p.ensures.apart)
+    let at = at-processor c.args.p c.in_ok-p.p c.in_ok-p.k (λ (p : ℕ). access_place c.size.result ps (table_of s.caches) p c.args.a) c.in_ok-p.ensures in
+    omega (arith, (placed ps c.in_ok-p.p c.in_ok-p.k (ok-access c.size.result ps (table_of s.caches) c.in_ok-p.p c.args.a c.in_ok-p.k at.1).0).within, few ps c.requires.apart)
 
 pub cut_last-requires : goal.cut_last-requires
 cut_last-requires g c =
     let s = c.args.self.now in
     let ps = processors_of s.caches in
-    let at = at-processor c.args.p c.in_ok-p.p c.in_ok-p.k (λ (p : ℕ). access_place c.size.result ps (table_of s.caches) p c.args.a) c.in_ok-p.ensures.value in
+    let at = at-processor c.args.p c.in_ok-p.p c.in_ok-p.k (λ (p : ℕ). access_place c.size.result ps (table_of s.caches) p c.args.a) c.in_ok-p.ensures in
     let place = (ok-access c.size.result ps (table_of s.caches) c.in_ok-p.p c.args.a c.in_ok-p.k at.1).0 in
     omega (arith, squashes-le (table_of s.caches) ps c.in_ok-p.p c.in_ok-p.k c.args.a place, hit-is (table_of s.caches) ps c.in_ok-p.k c.args.a c.squashed-hit.result c.squashed-hit.ensures)
 
@@ -58,16 +58,16 @@ pub overflow_cast-result : goal.overflow_cast-result
 overflow_cast-result g c =
     let s = c.args.self.now in
     let ps = processors_of s.caches in
-    let at = at-processor c.args.p c.in_ok-p.p c.in_ok-p.k (λ (p : ℕ). access_place c.size.result ps (table_of s.caches) p c.args.a) c.in_ok-p.ensures.value in
+    let at = at-processor c.args.p c.in_ok-p.p c.in_ok-p.k (λ (p : ℕ). access_place c.size.result ps (table_of s.caches) p c.args.a) c.in_ok-p.ensures in
     let place = (ok-access c.size.result ps (table_of s.caches) c.in_ok-p.p c.args.a c.in_ok-p.k at.1).0 in
-    omega (arith, squashes-le (table_of s.caches) ps c.in_ok-p.p c.in_ok-p.k c.args.a place, hit-is (table_of s.caches) ps c.in_ok-p.k c.args.a c.squashed-hit.result c.squashed-hit.ensures, few ps c.in_ok-p.ensures.apart)
+    omega (arith, squashes-le (table_of s.caches) ps c.in_ok-p.p c.in_ok-p.k c.args.a place, hit-is (table_of s.caches) ps c.in_ok-p.k c.args.a c.squashed-hit.result c.squashed-hit.ensures, few ps c.requires.apart)
 
 pub returns : goal.returns
 returns g c =
     let m = g.M.Memory in
     let s = c.args.self.now in
     let ps = processors_of s.caches in
-    let at = at-processor c.args.p c.in_ok-p.p c.in_ok-p.k (λ (p : ℕ). access_place c.size.result ps (table_of s.caches) p c.args.a) c.in_ok-p.ensures.value in
+    let at = at-processor c.args.p c.in_ok-p.p c.in_ok-p.k (λ (p : ℕ). access_place c.size.result ps (table_of s.caches) p c.args.a) c.in_ok-p.ensures in
     let table = table_of s.caches in
     let k = c.in_ok-p.k in
     let n = c.squashed-hit.result in
@@ -76,10 +76,10 @@ returns g c =
     c.invalidated-mask.ensures ∙ ap (λ (j : ℕ). powers (reached (λ q. table q c.args.a) (drop j ps))) (add-one k) in
     let test : (is_own (table c.in_ok-p.p c.args.a) && not (is_some (lines_in s.caches c.in_ok-p.p (c.args.a % 16)).next)) ≡ false =
     ap (λ (x : Line). is_own (version_at x c.args.a) && not (is_some x.next)) (sym line) ∙ (sym c.takes_store.ensures ∙ c.if-takes_store.false) in
-    let cut = after-cut m.words s c.requires c.in_ok-p.ensures.apart n c.cut_last.new.self.list c.cut_last.ensures.none c.cut_last.ensures.some in
+    let cut = after-cut m.words s c.requires n c.cut_last.new.self.list c.cut_last.ensures.none c.cut_last.ensures.some in
     let mid = lines_in c.cut_last.new.self in
     took m.words m.sound m.spare s (λ (p : ℕ). Store p c.args.a c.args.w) c.args.p c.in_ok-p.p (Ok n) _ at.0
-    (turn-store-miss m.words s c.requires c.in_ok-p.ensures.apart c.in_ok-p.p c.args.a c.args.w k n
+    (turn-store-miss m.words s c.requires c.in_ok-p.p c.args.a c.args.w k n
     c.invalidated-mask.result mid (processors_of c.write.new.self) c.write.new.self.list c.bus_write-self.result
     (at.1 ∙ ap (λ (n : ℕ). access_place n (processors_of s.caches) (table_of s.caches) c.in_ok-p.p c.args.a) c.size.ensures)
     test (hit-is table ps k c.args.a n c.squashed-hit.ensures) mask cut.0 cut.1 (c.write.ensures.order ∙ c.cut_last.ensures.order)
