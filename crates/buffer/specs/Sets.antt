@@ -55,3 +55,10 @@ pub record RowFor (rs : List Row) (p a j : ℕ) : Type 0 where
   pub within : j < 4
   pub fits : ((get_or rs j no_row).address ≡ a) ⊎ (is_free (slice_index_or rs j no_row) ≡ true)
   pub only : (i : ℕ) → i < 4 → is_held (in_row (slice_index_or rs i no_row) p) ≡ true → i ≡ j
+
+-- p's version of a is put into a row of the set that can take it
+pub record PutInto (rs : List Row) (p a : ℕ) (v : Version) (later : List Row) : Type 0 where
+  pub place : ℕ
+  pub takes : RowFor rs p a place
+  pub bound : p < 4
+  pub rows : later ≡ slice_set rs place (row_with (slice_index_or rs place no_row) p a v)

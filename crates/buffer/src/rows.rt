@@ -2,9 +2,10 @@
 // since each of four tasks holds at most one address of a class.
 ghost use Rattle.std.specs.Prelude.{◌≡◌, ℕ, ◌%◌, ◌<◌, true, ◌&&◌, map, length, get_or, ◌==◌, slice_index_or, slice_set};
 ghost use Rattle.std.specs.List.{position};
-ghost use Rattle.buffer.specs.Sets.{no_row, in_row, row_with, is_free, in_rows, held_address, without_row, GoodSet, GoodSets, RowFor};
+ghost use Rattle.buffer.specs.Sets.{no_row, in_row, row_with, is_free, in_rows, held_address, without_row, GoodSet, GoodSets, RowFor, PutInto};
 ghost use Rattle.versions.specs.Versions.{is_held};
 
+use std::marker::Model;
 use versions::{Class, Processor, Version};
 
 // An address and a version of it for each processor. A row without any is free.
@@ -44,82 +45,107 @@ impl Row {
     }
 }
 
-// p's version of a among the rows of a set.
-fn in_rows(rows: &[Row], p: Processor, a: u32) -> Version
-    ensures { result ≡ in_rows rows.now p a }
-{
-    rows.iter()
-        .find(|row| row.address == a && row.held_by(p))
-        .map_or(Version::none(), |row| row.version(p))
+// The four rows of one class of addresses.
+#[derive(Clone, Copy)]
+struct Set {
+    rows: [Row; 4],
 }
 
-// The address that p holds among the rows of a set.
-fn held_address(rows: &[Row], p: Processor) -> Option<u32>
-    ensures { result ≡ held_address rows.now p }
-{
-    rows.iter()
-        .find(|row| row.held_by(p))
-        .map(|row| row.address)
+// A clause sees a set as its rows.
+impl Model for Set {
+    ghost use Rattle.std.specs.Prelude.{◌≡◌, List, length};
+    ghost use Rattle.buffer.specs.declared.rows.Row.{Row};
+
+    ghost Value = { List Row };
+
+    ghost view = { λ s. s.rows };
+
+    ghost invariant = { λ s. length s.rows ≡ 4 };
+
+    ghost inverse = { λ rs. record { rows = rs } };
 }
 
-// Takes p's versions out of the rows of a set.
-fn clear_rows(rows: &mut [Row], p: Processor)
-    ensures { rows.new ≡ map (without_row p) rows.old }
-{
-    for row in rows.iter_mut() {
-        row.clear(p);
+impl Set {
+    // p's version of a.
+    fn version(&self, p: Processor, a: u32) -> Version
+        ensures { result ≡ in_rows self.now p a }
+    {
+        self.rows
+            .iter()
+            .find(|row| row.address == a && row.held_by(p))
+            .map_or(Version::none(), |row| row.version(p))
     }
-}
 
-// Makes v p's version of a, in the row at place j.
-fn put_row(rows: &mut [Row], j: usize, p: Processor, a: u32, v: Version)
-    requires { j < length rows.old }
-    ensures rows { rows.new ≡ slice_set rows.old j (row_with (slice_index_or rows.old j no_row) p a v) }
-    ensures bound { p < 4 }
-{
-    let row = &mut rows[j];
-    row.address = a;
-    row.versions[p.index()] = v;
-}
+    // The address that p holds.
+    fn held(&self, p: Processor) -> Option<u32>
+        ensures { result ≡ held_address self.now p }
+    {
+        self.rows
+            .iter()
+            .find(|row| row.held_by(p))
+            .map(|row| row.address)
+    }
 
-// The place of the row that p holds.
-fn held_place(rows: &[Row], p: Processor) -> Option<usize>
-    ensures place { result ≡ position (λ r. is_held (in_row r p)) rows.now }
-    ensures bound { p < 4 }
-{
-    let i = p.index();
-    rows.iter().position(|row| row.versions[i].is_held())
-}
+    // Takes p's versions out.
+    fn clear(&mut self, p: Processor)
+        ensures { self.new ≡ map (without_row p) self.old }
+    {
+        for row in self.rows.iter_mut() {
+            row.clear(p);
+        }
+    }
 
-// The place of a row of address a.
-fn address_place(rows: &[Row], a: u32) -> Option<usize>
-    ensures { result ≡ position (λ r. r.address == a) rows.now }
-{
-    rows.iter().position(|row| row.address == a)
-}
+    // Makes v p's version of a.
+    fn put(&mut self, p: Processor, a: u32, v: Version)
+        requires good_set { GoodSet (a % 16) self.old }
+        requires mine { (i : ℕ) → i < 4 → is_held (in_row (slice_index_or self.old i no_row) p) ≡ true → (get_or self.old i no_row).address ≡ a }
+        ensures { PutInto self.old p a v self.new }
+    {
+        let j = self.row_for(p, a);
+        let row = &mut self.rows[j];
+        row.address = a;
+        row.versions[p.index()] = v;
+    }
 
-// The place of a free row.
-fn free_place(rows: &[Row]) -> Option<usize>
-    ensures { result ≡ position is_free rows.now }
-{
-    rows.iter().position(|row| row.is_free())
-}
+    // A row that can take p's version of a: the one that p holds, else one of the address, else a free one.
+    fn row_for(&self, p: Processor, a: u32) -> usize
+        requires good_set { GoodSet (a % 16) self.now }
+        requires mine { (i : ℕ) → i < 4 → is_held (in_row (slice_index_or self.now i no_row) p) ≡ true → (get_or self.now i no_row).address ≡ a }
+        ensures { RowFor self.now p a result }
+    {
+        self.held_place(p)
+            .or_else(|| self.address_place(a))
+            .or_else(|| self.free_place())
+            .unwrap()
+    }
 
-// A row of a set that can take p's version of a: the one that p holds, else one of the address, else a free one.
-fn row_for(rows: &[Row], p: Processor, a: u32) -> usize
-    requires good_set { GoodSet (a % 16) rows.now }
-    requires mine { (i : ℕ) → i < 4 → is_held (in_row (slice_index_or rows.now i no_row) p) ≡ true → (get_or rows.now i no_row).address ≡ a }
-    ensures { RowFor rows.now p a result }
-{
-    held_place(rows, p)
-        .or_else(|| address_place(rows, a))
-        .or_else(|| free_place(rows))
-        .unwrap()
+    // The place of the row that p holds.
+    fn held_place(&self, p: Processor) -> Option<usize>
+        ensures place { result ≡ position (λ r. is_held (in_row r p)) self.now }
+        ensures bound { p < 4 }
+    {
+        let i = p.index();
+        self.rows.iter().position(|row| row.versions[i].is_held())
+    }
+
+    // The place of a row of address a.
+    fn address_place(&self, a: u32) -> Option<usize>
+        ensures { result ≡ position (λ r. r.address == a) self.now }
+    {
+        self.rows.iter().position(|row| row.address == a)
+    }
+
+    // The place of a free row.
+    fn free_place(&self) -> Option<usize>
+        ensures { result ≡ position is_free self.now }
+    {
+        self.rows.iter().position(|row| row.is_free())
+    }
 }
 
 #[derive(Drop)]
 pub struct Rows {
-    sets: [[Row; 4]; 16],
+    sets: [Set; 16],
     ghost good: { GoodSets sets },
 }
 
@@ -136,7 +162,7 @@ impl Rows {
             versions: [Version::none(); 4],
         };
         Rows {
-            sets: [[row; 4]; 16],
+            sets: [Set { rows: [row; 4] }; 16],
         }
     }
 
@@ -144,14 +170,14 @@ impl Rows {
     pub fn version(&self, p: Processor, a: u32) -> Version
         ensures { result ≡ table_in self.now p a }
     {
-        in_rows(&self.sets[Class::of(a).index()], p, a)
+        self.sets[Class::of(a).index()].version(p, a)
     }
 
     // The address of class c that p holds.
     pub fn held(&self, p: Processor, c: Class) -> Option<u32>
         ensures { HeldIn (table_in self.now p) c result }
     {
-        held_address(&self.sets[c.index()], p)
+        self.sets[c.index()].held(p)
     }
 
     // Makes v p's version of a. p holds no other address of a's class.
@@ -160,8 +186,7 @@ impl Rows {
         ensures { table_in self.new ≡ with_version (table_in self.old) p a v }
     {
         let set = &mut self.sets[Class::of(a).index()];
-        let j = row_for(set, p, a);
-        put_row(set, j, p, a, v);
+        set.put(p, a, v);
     }
 
     // Takes p's versions out of all rows.
@@ -169,7 +194,7 @@ impl Rows {
         ensures { table_in self.new ≡ without (table_in self.old) p }
     {
         for set in self.sets.iter_mut() {
-            clear_rows(set, p);
+            set.clear(p);
         }
     }
 }

@@ -62,6 +62,8 @@ impl<M: Memory> VersionStore for SnoopingStore<M> {
         }
     }
 
+    // The central buffer has the same calls. What they share is in `TaskTable` and `write_own`, `write_back`; what is left here are
+    // steps on this store's own lines, which no generic form says more plainly: each ends in a report of its own.
     fn start(&mut self, p: u32) -> Answer {
         let (p, active) = self.caches.startable(p)?;
         self.caches.append(p);

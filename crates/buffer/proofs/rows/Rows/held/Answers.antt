@@ -1,10 +1,15 @@
-use Rattle.std.proofs.Common.{subst}
+use Rattle.std.proofs.Common.{[], List, ap, ◌∙◌, subst, arith}
+use Rattle.std.proofs.lemmas.List.{get_or_default}
 use Rattle.versions.specs.Tables.{HeldIn}
+use Rattle.buffer.specs.declared.rows.Row.{Row}
 use Rattle.buffer.specs.Rows.{table_in}
+use Rattle.buffer.specs.Sets.{held_address}
 use Rattle.buffer.proofs.Buffering.{held-table}
 use Rattle.buffer.proofs.rows.Rows.held.Goals as goal
 
 pub returns : goal.returns
 returns c =
-    subst (λ k. HeldIn (table_in c.args.self.now c.args.p) k c.held_address.result) c.index.ensures.value
-    (held-table c.args.self.now.sets c.args.p c.index.result c.held_address.result c.args.self.now.good c.index.ensures.bound c.held_address.ensures)
+    let rows = c.args.self.now in
+    let set = get_or_default rows.sets c.index.result _ [] (omega (arith, rows.good.count, c.index.ensures.bound)) in
+    subst (λ k. HeldIn (table_in rows c.args.p) k c.held.result) c.index.ensures.value
+    (held-table rows.sets c.args.p c.index.result c.held.result rows.good c.index.ensures.bound (c.held.ensures ∙ ap (λ (rs : List Row). held_address rs c.args.p) set))

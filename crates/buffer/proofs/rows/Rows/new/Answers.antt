@@ -3,8 +3,8 @@ use Rattle.versions.specs.declared.version.Version.{Version}
 use Rattle.buffer.proofs.Buffering.{new-table}
 use Rattle.buffer.proofs.rows.Rows.new.Goals as goal
 
-pub invariant_of-result : goal.invariant_of-result
-invariant_of-result c = record { good = (new-table (record { address = 0; versions = replicate 4 c.none.result }) _ (ap (λ (v : Version). replicate 4 v) c.none.ensures) refl).1 }
+pub invariant_of-result-2 : goal.invariant_of-result-2
+invariant_of-result-2 c = record { good = (new-table (record { address = 0; versions = replicate 4 c.none.result }) _ (ap (λ (v : Version). replicate 4 v) c.none.ensures) refl).1 }
 
 pub returns : goal.returns
 returns c = (new-table (record { address = 0; versions = replicate 4 c.none.result }) _ (ap (λ (v : Version). replicate 4 v) c.none.ensures) refl).0
