@@ -5,7 +5,7 @@ ghost use Rattle.memory.specs.Adler.{with_byte, with_word_bytes, adler32};
 use crate::error::MemoryError;
 use crate::interface::Memory;
 
-// The checksum of all words.
+// The checksum of all words. By addresses, as in `client`: a memory shows no slice of its words.
 pub fn checksum<M: Memory>(memory: &mut M) -> Result<u32, MemoryError>
     requires { M.Memory.sound memory.old }
     ensures answer { result ≡ Ok (adler32 (M.Memory.words memory.old)) }
