@@ -9,7 +9,7 @@ use Rattle.memory.specs.declared.error.MemoryError.{MemoryError}
 use Rattle.memory.specs.declared.second.Line.{Line}
 use Rattle.memory.specs.declared.second.Line.TheVariants.{Empty, Clean, Changed}
 use Rattle.memory.specs.Words.{read_answer, written_words}
-use Rattle.memory.specs.Second.{Cached, lines_over, empty_over, word_in, line_of, hit, counted_at, counted, written_back, given_up, freed, with_line, MayHold, Tied}
+use Rattle.memory.specs.Second.{Cached, empty_over, word_in, line_of, hit, counted_at, counted, written_back, given_up, freed, with_line, MayHold, Tied}
 
 pub length-counted : (c : Cached) → length (counted c) ≡ length c.below
 unfolding counted

@@ -8,6 +8,9 @@ ghost use Rattle.memory.specs.Second.{word_in, hit, counted, empty_over, given_u
 use crate::error::MemoryError;
 use crate::interface::Memory;
 
+// How many lines a cache has.
+const LINES: usize = 64;
+
 // A line holds no word, or the word of the address `tag`: clean if the memory below has that word too, changed once
 // it has been written.
 #[derive(Clone, Copy)]
@@ -33,13 +36,13 @@ impl Line {
 fn line_number(a: u32) -> usize
     ensures { result ≡ a % 64 }
 {
-    a as usize % 64
+    a as usize % LINES
 }
 
 // It can't be let go, since the words that it holds back would be lost: it is taken apart by `close`.
 pub struct SecondLevel<M> {
     below: M,
-    lines: [Line; 64],
+    lines: [Line; LINES],
 }
 
 impl<M: Memory> SecondLevel<M> {
@@ -53,7 +56,7 @@ impl<M: Memory> SecondLevel<M> {
     {
         SecondLevel {
             below,
-            lines: [Line::Empty; 64],
+            lines: [Line::Empty; LINES],
         }
     }
 
@@ -77,7 +80,7 @@ impl<M: Memory> SecondLevel<M> {
         ensures beside { M.Memory.spare self.new.below ≡ M.Memory.spare self.old.below }
         ensures kept { M.Memory.sound self.new.below }
     {
-        for i in 0..64 {
+        for i in 0..LINES {
             self.give_up(i);
         }
     }
