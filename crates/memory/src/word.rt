@@ -5,6 +5,9 @@ ghost use Rattle.memory.specs.Words.{read_answer, write_answer, written_words, o
 use crate::error::MemoryError;
 use crate::interface::{Memory, check_size};
 
+// Its `check`, `open` and `close` are not one generic form with those of byte memory: each is a line, and one form would
+// count words as elements divided by 1.
+//
 // Letting one go ends the loan and loses nothing, as every word already lies in the row.
 #[derive(Drop)]
 pub struct WordMemory<'a> {
