@@ -64,7 +64,7 @@ impl Memory for WordMemory<'_> {
 
     // Tried with `get_mut`: of a row that it has lent a word of, a proof knows the length alone.
     fn write(&mut self, a: u32, w: u32) -> Result<(), MemoryError> {
-        if a as usize >= self.row.len() {
+        if a >= self.size() {
             return Err(MemoryError::Address);
         }
         self.row[a as usize] = w;
