@@ -2,13 +2,18 @@
 // word memory, from there through two caches into another byte memory, and all of it taken apart again and compared.
 #![tactic(auto)]
 
+ghost use Rattle.std.specs.Prelude.{◌≡◌};
+ghost use Rattle.memory.specs.Bytes.{spare_bytes};
+
 mod report;
+mod rows;
 mod transfer;
 
 use memory::{
-    ByteMemory, Memory, MemoryError, SecondLevel, WordMemory, checksum, count_differences,
+    ByteMemory, MOST_WORDS, MemoryError, SecondLevel, WordMemory, checksum, count_differences,
 };
 use report::{Hex, Outcome, Outside};
+use rows::{Memories, Rows};
 use std::fs;
 use transfer::{copy_from_cache, copy_into_caches, try_outside};
 
@@ -17,47 +22,42 @@ fn main(rt: HostRuntime) -> anyhow::Result<()> {
 }
 
 fn run(rt: &HostRuntime) -> anyhow::Result<()> {
-    let mut dump = fs::read(rt, "dump.bin")?;
+    let dump = fs::read(rt, "dump.bin")?;
     let size = dump.len();
     let n = size / 4;
-    let mut words = vec![in rt.alloc(); 0u32; n]?;
-    let mut bytes = vec![in rt.alloc(); 0xeeu8; size]?;
+    let words = vec![in rt.alloc(); 0u32; n]?;
+    let bytes = vec![in rt.alloc(); 0xeeu8; size]?;
+    let mut rows = Rows { dump, words, bytes };
     println!(rt;
         "dump: {size} bytes, {n} words, left over: {}",
-        Hex(&dump.as_slice()[4 * n..])
+        left_over(rows.dump.as_slice())
     )?;
-    carry(
-        rt,
-        dump.as_mut_slice(),
-        words.as_mut_slice(),
-        bytes.as_mut_slice(),
-    )?;
+    carry(rt, &mut rows)?;
     println!(rt;
         "left over in byte memory: {}",
-        Hex(&bytes.as_slice()[4 * n..])
+        left_over(rows.bytes.as_slice())
     )?;
-    make_bad_calls(
-        rt,
-        dump.as_mut_slice(),
-        words.as_mut_slice(),
-        bytes.as_mut_slice(),
-    )?;
+    make_bad_calls(rt, &mut rows)?;
     make_bad_openings(rt)
 }
 
+// The bytes at a row's end that belong to no word.
+fn left_over(row: &[u8]) -> Hex<'_>
+    ensures { result.0.now ≡ spare_bytes row.now }
+{
+    let (_, left) = row.as_chunks::<4>();
+    Hex(left)
+}
+
 // Moves the dump into the words and from there into the bytes, and compares all three.
-fn carry(
-    rt: &HostRuntime,
-    dump: &mut [u8],
-    words: &mut [u32],
-    bytes: &mut [u8],
-) -> anyhow::Result<()> {
-    ByteMemory::check(dump)?;
-    WordMemory::check(words)?;
-    ByteMemory::check(bytes)?;
-    let mut target = WordMemory::open(words);
-    let (mut source, moved) = copy_from_cache(ByteMemory::open(dump), &mut target);
-    let (mut copy, restored) = copy_into_caches(&mut target, ByteMemory::open(bytes));
+fn carry(rt: &HostRuntime, rows: &mut Rows) -> anyhow::Result<()> {
+    let Memories {
+        dump,
+        mut words,
+        bytes,
+    } = rows.open()?;
+    let (mut dump, moved) = copy_from_cache(dump, &mut words);
+    let (mut bytes, restored) = copy_into_caches(&mut words, bytes);
     println!(rt;
         "moved into word memory through one cache: {} words",
         moved?
@@ -68,33 +68,28 @@ fn carry(
     )?;
     println!(rt;
         "differences between dump and word memory: {}",
-        count_differences(&mut source, &mut target)?
+        count_differences(&mut dump, &mut words)?
     )?;
     println!(rt;
         "differences between dump and byte memory: {}",
-        count_differences(&mut source, &mut copy)?
+        count_differences(&mut dump, &mut bytes)?
     )?;
-    println!(rt; "checksum of the dump: {:08x}", checksum(&mut source)?)?;
-    println!(rt; "checksum of word memory: {:08x}", checksum(&mut target)?)?;
-    println!(rt; "checksum of byte memory: {:08x}", checksum(&mut copy)?)?;
+    println!(rt; "checksum of the dump: {:08x}", checksum(&mut dump)?)?;
+    println!(rt; "checksum of word memory: {:08x}", checksum(&mut words)?)?;
+    println!(rt; "checksum of byte memory: {:08x}", checksum(&mut bytes)?)?;
     Ok(())
 }
 
 // Asks each kind of memory for words that it does not have.
-fn make_bad_calls(
-    rt: &HostRuntime,
-    dump: &mut [u8],
-    words: &mut [u32],
-    bytes: &mut [u8],
-) -> anyhow::Result<()> {
-    ByteMemory::check(dump)?;
-    WordMemory::check(words)?;
-    ByteMemory::check(bytes)?;
-    let mut target = WordMemory::open(words);
-    print_outside(rt, "word memory", try_outside(&mut target))?;
-    let mut source = ByteMemory::open(dump);
-    print_outside(rt, "byte memory", try_outside(&mut source))?;
-    let mut cache = SecondLevel::open(ByteMemory::open(bytes));
+fn make_bad_calls(rt: &HostRuntime, rows: &mut Rows) -> anyhow::Result<()> {
+    let Memories {
+        mut dump,
+        mut words,
+        bytes,
+    } = rows.open()?;
+    print_outside(rt, "word memory", try_outside(&mut words))?;
+    print_outside(rt, "byte memory", try_outside(&mut dump))?;
+    let mut cache = SecondLevel::open(bytes);
     let outside = try_outside(&mut cache);
     let _ = cache.close();
     print_outside(rt, "second-level cache", outside)
@@ -108,23 +103,15 @@ fn print_outside(rt: &HostRuntime, kind: &str, [first, last]: [Outside; 2]) -> a
 
 // Asks for memories of no word and of too many.
 fn make_bad_openings(rt: &HostRuntime) -> anyhow::Result<()> {
-    let bytes = vec![in rt.alloc(); 0u8; 16388]?;
-    let words = vec![in rt.alloc(); 0u32; 4097]?;
-    print_opening(rt, "bytes", 0, ByteMemory::check(&[]))?;
-    print_opening(rt, "bytes", 3, ByteMemory::check(&[0; 3]))?;
-    print_opening(
-        rt,
-        "bytes",
-        bytes.len(),
-        ByteMemory::check(bytes.as_slice()),
-    )?;
-    print_opening(rt, "words", 0, WordMemory::check(&[]))?;
-    print_opening(
-        rt,
-        "words",
-        words.len(),
-        WordMemory::check(words.as_slice()),
-    )
+    let bytes = vec![in rt.alloc(); 0u8; 4 * (MOST_WORDS + 1)]?;
+    let words = vec![in rt.alloc(); 0u32; MOST_WORDS + 1]?;
+    for row in [&[], [0; 3].as_slice(), bytes.as_slice()] {
+        print_opening(rt, "bytes", row.len(), ByteMemory::check(row))?;
+    }
+    for row in [&[], words.as_slice()] {
+        print_opening(rt, "words", row.len(), WordMemory::check(row))?;
+    }
+    Ok(())
 }
 
 fn print_opening(

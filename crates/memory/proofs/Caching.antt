@@ -8,8 +8,8 @@ use Rattle.std.proofs.lemmas.Grind.{common_steps, same_number_lists}
 use Rattle.memory.specs.declared.error.MemoryError.{MemoryError}
 use Rattle.memory.specs.declared.second.Line.{Line}
 use Rattle.memory.specs.declared.second.Line.TheVariants.{Empty, Clean, Changed}
-use Rattle.memory.specs.Words.{read_answer}
-use Rattle.memory.specs.Second.{Cached, lines_over, empty_over, word_in, line_of, hit, counted_at, counted, written_back, given_up, freed, with_line, MayHold, Tied}
+use Rattle.memory.specs.Words.{read_answer, written_words}
+use Rattle.memory.specs.Second.{Cached, empty_over, word_in, line_of, hit, counted_at, counted, written_back, given_up, freed, with_line, MayHold, Tied}
 
 pub length-counted : (c : Cached) → length (counted c) ≡ length c.below
 unfolding counted
@@ -210,15 +210,13 @@ pub record Fetched (c d : Cached) (a w : ℕ) : Type 0 where
   pub after : counted d ≡ counted c
   pub kept : Tied d
 
-pub fetch-done : (c m f : Cached) (a w : ℕ) → Tied c → hit c a ≡ false → m ≡ c → Ok w ≡ read_answer c.below a → f ≡ freed m a
-    → Fetched c (lines_over (set f.lines (a % 64) (Clean a w)) f.below) a w
-fetch-done c m f a w t miss same done free =
+pub fetch-done : (c m d : Cached) (a w : ℕ) → Tied c → hit c a ≡ false → m ≡ c → Ok w ≡ read_answer c.below a → d ≡ with_line m a (Clean a w) → Fetched c d a w
+fetch-done c m d a w t miss same done put =
     let ok : (a < length c.below) × (w ≡ get_or c.below a 0) = grind (arith, nat_tests) in
     let none : word_in (line_of c a) a ≡ None = grind (arith, nat_tests) in
     let law = fetches-line c a t ok.0 none in
-    let is : lines_over (set f.lines (a % 64) (Clean a w)) f.below ≡ with_line c a (Clean a (get_or c.below a 0)) =
-    ap (λ (x : Cached). lines_over (set x.lines (a % 64) (Clean a w)) x.below) (free ∙ ap (λ (x : Cached). freed x a) same)
-    ∙ ap (λ (v : ℕ). with_line c a (Clean a v)) ok.1 in
+    let is : d ≡ with_line c a (Clean a (get_or c.below a 0)) =
+    put ∙ (ap (λ (x : Cached). with_line x a (Clean a w)) same ∙ ap (λ (v : ℕ). with_line c a (Clean a v)) ok.1) in
     let word = counted-miss c a ok.0 none in
     record {
       answer = grind (arith, nat_tests, length-counted c, word);
@@ -226,14 +224,12 @@ fetch-done c m f a w t miss same done free =
       kept = rw is law.0;
     }
 
--- a write to an address of the memory, by the cache f with the line freed
-pub record Put (c d : Cached) (a w : ℕ) : Type 0 where
-  pub after : counted d ≡ set (counted c) a w
+-- a write to an address of the memory, from the cache c to the cache d
+pub record Written (c d : Cached) (a w : ℕ) : Type 0 where
+  pub after : counted d ≡ written_words (counted c) a w
   pub kept : Tied d
 
-pub put-done : (c f : Cached) (a w : ℕ) → Tied c → a < length c.below → f ≡ freed c a → Put c (lines_over (set f.lines (a % 64) (Changed a w)) f.below) a w
-put-done c f a w t h free =
-    let is : lines_over (set f.lines (a % 64) (Changed a w)) f.below ≡ with_line c a (Changed a w) =
-    ap (λ (x : Cached). lines_over (set x.lines (a % 64) (Changed a w)) x.below) free in
-    let law = writes_line c a w t h in
-    record { after = ap counted is ∙ law.1; kept = rw is law.0 }
+pub write-done : (c d : Cached) (a w : ℕ) → Tied c → a < length (counted c) → d ≡ with_line c a (Changed a w) → Written c d a w
+write-done c d a w t h put =
+    let law = writes_line c a w t (rw length-counted at h) in
+    record { after = grind (arith, nat_tests, law.1); kept = rw put law.0 }

@@ -1,10 +1,8 @@
 -- The step of copying word by word.
-use Rattle.std.proofs.Common.{◌≡◌, ℕ, ◌+◌, ◌<◌, ◌≤◌, List, [], ◌∷◌, ◌++◌, length, get_or, take, drop, set, Ok, Err, sym, ap, ◌∙◌, arith}
+use Rattle.std.proofs.Common.{◌≡◌, ℕ, ◌+◌, ◌<◌, ◌≤◌, List, [], ◌∷◌, ◌++◌, length, get_or, take, drop, set, Ok, sym, ap, ◌∙◌, arith}
 use Rattle.std.proofs.lemmas.List.{length-append, length-take-le, length-drop, take_more, drop_more, set_at, append_assoc}
 use Rattle.std.proofs.lemmas.Bool.Decides.{nat_tests}
-use Rattle.std.proofs.lemmas.Grind.{common_steps}
-use Rattle.memory.specs.declared.error.MemoryError.{MemoryError}
-use Rattle.memory.specs.Words.{read_answer, write_answer, written_words}
+use Rattle.memory.specs.Words.{read_answer, written_words}
 use Rattle.memory.specs.Client.{copied}
 
 length-copied : (ws vs : List ℕ) (a : ℕ) → a ≤ length ws → a ≤ length vs → length (copied a ws vs) ≡ length vs
@@ -23,8 +21,3 @@ copy_step ws vs fs us xs a w h k same us-is read xs-is =
     let more = copied_more ws vs a h k in
     let long = length-copied ws vs a (omega arith) (omega arith) in
     grind (arith, nat_tests, more, long)
-
--- and its write is not refused
-pub copy-accepted : (ws vs us : List ℕ) (a : ℕ) (e : MemoryError) → a < length ws → a < length vs → us ≡ copied a ws vs
-    → Err e ≡ write_answer us a → ⊥
-copy-accepted ws vs us a e h k us-is refused = grind (arith, common_steps)

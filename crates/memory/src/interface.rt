@@ -5,6 +5,9 @@ ghost use Rattle.memory.specs.Words.{read_answer, write_answer, written_words, o
 
 use crate::error::MemoryError;
 
+// The most words that a memory may have.
+pub const MOST_WORDS: usize = 4096;
+
 pub trait Memory {
     // The words as the memory counts them: what a read gives, whatever a layer still holds back from the one below.
     ghost words: { Self → List ℕ };
@@ -45,7 +48,7 @@ pub(crate) fn check_size(words: usize) -> Result<(), MemoryError>
     ensures { result ≡ open_answer words }
 {
     match words {
-        1..=4096 => Ok(()),
+        1..=MOST_WORDS => Ok(()),
         _ => Err(MemoryError::Size),
     }
 }

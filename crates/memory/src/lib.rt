@@ -14,7 +14,7 @@ mod word;
 pub use byte::ByteMemory;
 pub use client::{copy_words, count_differences};
 pub use error::MemoryError;
-pub use interface::Memory;
+pub use interface::{MOST_WORDS, Memory};
 pub use second::SecondLevel;
 pub use sums::checksum;
 pub use word::WordMemory;

@@ -1,13 +1,15 @@
 // The second-level cache: 64 lines over any other memory, which it holds. Address a has line a mod 64. A word that
 // was written stays in its line, and goes below only when another address needs the line or when the cache is taken
 // apart.
-ghost use Rattle.std.specs.Prelude.{◌≡◌, ℕ, ◌<◌, false, List, length, is_some, IfSome, Ok, OnSome, slice_set};
-ghost use Rattle.memory.specs.declared.second.Line.TheVariants.{Changed};
+ghost use Rattle.std.specs.Prelude.{◌≡◌, ℕ, ◌%◌, ◌<◌, false, List, length, is_some, IfSome, Ok, OnSome};
 ghost use Rattle.memory.specs.Words.{read_answer, write_answer, written_words};
 ghost use Rattle.memory.specs.Second.{word_in, hit, counted, empty_over, given_up, freed, with_line, after_read, after_write, cached_of, SoundCache, counted-sized};
 
 use crate::error::MemoryError;
 use crate::interface::Memory;
+
+// How many lines a cache has.
+const LINES: usize = 64;
 
 // A line holds no word, or the word of the address `tag`: clean if the memory below has that word too, changed once
 // it has been written.
@@ -30,10 +32,17 @@ impl Line {
     }
 }
 
+// The number of the line of address a.
+fn line_number(a: u32) -> usize
+    ensures { result ≡ a % 64 }
+{
+    a as usize % LINES
+}
+
 // It can't be let go, since the words that it holds back would be lost: it is taken apart by `close`.
 pub struct SecondLevel<M> {
     below: M,
-    lines: [Line; 64],
+    lines: [Line; LINES],
 }
 
 impl<M: Memory> SecondLevel<M> {
@@ -47,7 +56,7 @@ impl<M: Memory> SecondLevel<M> {
     {
         SecondLevel {
             below,
-            lines: [Line::Empty; 64],
+            lines: [Line::Empty; LINES],
         }
     }
 
@@ -71,7 +80,7 @@ impl<M: Memory> SecondLevel<M> {
         ensures beside { M.Memory.spare self.new.below ≡ M.Memory.spare self.old.below }
         ensures kept { M.Memory.sound self.new.below }
     {
-        for i in 0..64 {
+        for i in 0..LINES {
             self.give_up(i);
         }
     }
@@ -99,7 +108,7 @@ impl<M: Memory> SecondLevel<M> {
         ensures answer { IfSome result (λ w. read_answer (counted (cached_of M.Memory.words self.now)) a ≡ Ok w) }
         ensures cached { OnSome result (after_read (cached_of M.Memory.words self.now) a ≡ cached_of M.Memory.words self.now) }
     {
-        self.lines[a as usize % 64].word_of(a)
+        self.lines[line_number(a)].word_of(a)
     }
 
     // Frees the line of address a for it: one that holds another address is given up.
@@ -109,10 +118,21 @@ impl<M: Memory> SecondLevel<M> {
         ensures beside { M.Memory.spare self.new.below ≡ M.Memory.spare self.old.below }
         ensures kept { M.Memory.sound self.new.below }
     {
-        let i = a as usize % 64;
+        let i = line_number(a);
         if self.lines[i].word_of(a).is_none() {
             self.give_up(i);
         }
+    }
+
+    // Puts `line` in the place of the line of address a, which is freed for it.
+    fn set_line(&mut self, a: u32, line: Line)
+        requires { SoundCache M.Memory.words M.Memory.sound self.old }
+        ensures cached { cached_of M.Memory.words self.new ≡ with_line (cached_of M.Memory.words self.old) a line }
+        ensures beside { M.Memory.spare self.new.below ≡ M.Memory.spare self.old.below }
+        ensures kept { M.Memory.sound self.new.below }
+    {
+        self.free(a);
+        self.lines[line_number(a)] = line;
     }
 
     // Reads address a, which has no line, from below and takes the line for it. The word below is read first, so
@@ -127,22 +147,8 @@ impl<M: Memory> SecondLevel<M> {
         ensures cached { cached_of M.Memory.words self.new ≡ after_read (cached_of M.Memory.words self.old) a }
     {
         let word = self.below.read(a)?;
-        self.free(a);
-        self.lines[a as usize % 64] = Line::Clean { tag: a, word };
+        self.set_line(a, Line::Clean { tag: a, word });
         Ok(word)
-    }
-
-    // Puts w into the line of address a, an address of the memory.
-    fn put(&mut self, a: u32, w: u32)
-        requires sound { SoundCache M.Memory.words M.Memory.sound self.old }
-        requires inside { a < length (M.Memory.words self.old.below) }
-        ensures after { counted (cached_of M.Memory.words self.new) ≡ slice_set (counted (cached_of M.Memory.words self.old)) a w }
-        ensures beside { M.Memory.spare self.new.below ≡ M.Memory.spare self.old.below }
-        ensures kept { SoundCache M.Memory.words M.Memory.sound self.new }
-        ensures cached { cached_of M.Memory.words self.new ≡ with_line (cached_of M.Memory.words self.old) a (Changed a w) }
-    {
-        self.free(a);
-        self.lines[a as usize % 64] = Line::Changed { tag: a, word: w };
     }
 }
 
@@ -187,7 +193,7 @@ impl<M: Memory> Memory for SecondLevel<M> {
         if a >= self.size() {
             return Err(MemoryError::Address);
         }
-        self.put(a, w);
+        self.set_line(a, Line::Changed { tag: a, word: w });
         Ok(())
     }
 

@@ -5,7 +5,10 @@ ghost use Rattle.memory.specs.Adler.{with_byte, with_word_bytes, adler32};
 use crate::error::MemoryError;
 use crate::interface::Memory;
 
-// The checksum of all words.
+// The largest prime below 65,536.
+const PRIME: u32 = 65521;
+
+// The checksum of all words. By addresses, as in `client`: a memory shows no slice of its words.
 pub fn checksum<M: Memory>(memory: &mut M) -> Result<u32, MemoryError>
     requires { M.Memory.sound memory.old }
     ensures answer { result ≡ Ok (adler32 (M.Memory.words memory.old)) }
@@ -34,7 +37,7 @@ fn add_word(sum: u32, w: u32) -> u32
 fn add_byte(sum: u32, b: u8) -> u32
     ensures { result ≡ with_byte sum b }
 {
-    let low = (sum % 65536 + b as u32) % 65521;
-    let high = (sum / 65536 + low) % 65521;
+    let low = (sum % 65536 + b as u32) % PRIME;
+    let high = (sum / 65536 + low) % PRIME;
     high * 65536 + low
 }

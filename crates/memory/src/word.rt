@@ -1,10 +1,13 @@
 // Word memory: the words lie in a row of `u32` that the caller lends.
-ghost use Rattle.std.specs.Prelude.{◌≡◌, ℕ, List, [], length, Ok};
+ghost use Rattle.std.specs.Prelude.{◌≡◌, ℕ, List, [], length, Ok, slice_get};
 ghost use Rattle.memory.specs.Words.{read_answer, write_answer, written_words, open_answer, MemorySize};
 
 use crate::error::MemoryError;
 use crate::interface::{Memory, check_size};
 
+// Its `check`, `open` and `close` are not one generic form with those of byte memory: each is a line, and one form would
+// count words as elements divided by 1.
+//
 // Letting one go ends the loan and loses nothing, as every word already lies in the row.
 #[derive(Drop)]
 pub struct WordMemory<'a> {
@@ -35,6 +38,13 @@ impl<'a> WordMemory<'a> {
         let WordMemory { row } = self;
         row
     }
+
+    // Word a of the row, if it has one.
+    fn word(&self, a: u32) -> Option<u32>
+        ensures { result ≡ slice_get self.now.row.now a }
+    {
+        self.row.get(a as usize).copied()
+    }
 }
 
 impl Memory for WordMemory<'_> {
@@ -48,16 +58,13 @@ impl Memory for WordMemory<'_> {
         self.row.len() as u32
     }
 
-    // Tested and indexed: of a row that `get` has lent a part of, nothing is known afterwards.
     fn read(&mut self, a: u32) -> Result<u32, MemoryError> {
-        if a as usize >= self.row.len() {
-            return Err(MemoryError::Address);
-        }
-        Ok(self.row[a as usize])
+        self.word(a).ok_or(MemoryError::Address)
     }
 
+    // Tried with `get_mut`: of a row that it has lent a word of, a proof knows the length alone.
     fn write(&mut self, a: u32, w: u32) -> Result<(), MemoryError> {
-        if a as usize >= self.row.len() {
+        if a >= self.size() {
             return Err(MemoryError::Address);
         }
         self.row[a as usize] = w;

@@ -9,12 +9,9 @@ ghost use Rattle.model.specs.Refusals.{run_outcome, number_told};
 use crate::command::{Command, Reply};
 use crate::machine::Machine;
 use crate::refusal::RunRefusal;
-use memory::{Memory, WordMemory};
+use memory::{MOST_WORDS, Memory, WordMemory};
 use player::ListFault;
 use stores::{CentralBuffer, SnoopingStore};
-
-// As many words as a memory may have.
-const MOST_WORDS: usize = 4096;
 
 // Whether a run may begin: the words can be a memory, and there is a place for the reply to each command.
 fn check(words: &[u32], commands: &[Command], replies: &[Reply]) -> Result<(), RunRefusal>

@@ -1,12 +1,12 @@
 // Plays the turns of `turns.txt` on the snooping store, over 4,096 words that `image.bin` fills, and prints the listing.
 #![tactic(auto)]
 
-use memory::WordMemory;
+use memory::{MOST_WORDS, WordMemory};
 use played::listing_of_files;
 use stores::SnoopingStore;
 
 fn main(rt: HostRuntime) -> anyhow::Result<()> {
-    let mut words = vec![in rt.alloc(); 0u32; 4096]?;
+    let mut words = vec![in rt.alloc(); 0u32; MOST_WORDS]?;
     let memory = WordMemory::open(words.as_mut_slice());
     let listing = listing_of_files::<SnoopingStore<WordMemory>>(&rt, memory)?;
     rt.print(listing.as_str())?;

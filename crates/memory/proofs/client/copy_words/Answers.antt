@@ -1,10 +1,6 @@
 use Rattle.std.proofs.Common.{◌∙◌, arith}
-use Rattle.memory.proofs.Copying.{copy_step, copy-accepted}
+use Rattle.memory.proofs.Copying.{copy_step}
 use Rattle.memory.proofs.client.copy_words.Goals as goal
-
-pub returns-in_err-write : goal.returns-in_err-write
-returns-in_err-write g c =
-    absurd (copy-accepted (g.F.Memory.words c.args.from.now) (g.T.Memory.words c.args.to.now) _ c.loop-a.a _ (omega arith) (omega arith) c.loop-a.invariant.3 c.in_err-write.ensures.answer)
 
 pub loop-a-preserved : goal.loop-a-preserved
 loop-a-preserved g c = (

@@ -13,7 +13,7 @@ pub returns : goal.returns
 returns g c =
     let before = cached_of g.M.Memory.words c.args.self.now in
     let read = lines_over c.args.self.now.lines (g.M.Memory.words c.read.new.self) in
-    let freed = cached_of g.M.Memory.words c.free.new.self in
-    let law = fetch-done before read freed c.args.a c.in_ok-word.word c.requires.sound.1 c.requires.missed
-    (ap (lines_over c.args.self.now.lines) c.read.ensures.after) c.in_ok-word.ensures.answer c.free.ensures.cached in
-    record { answer = law.answer; after = law.after; beside = c.free.ensures.beside ∙ c.read.ensures.beside; kept = (c.free.ensures.kept, law.kept); cached = search rules }
+    let after = cached_of g.M.Memory.words c.set_line.new.self in
+    let law = fetch-done before read after c.args.a c.in_ok-word.word c.requires.sound.1 c.requires.missed
+    (ap (lines_over c.args.self.now.lines) c.read.ensures.after) c.in_ok-word.ensures.answer c.set_line.ensures.cached in
+    record { answer = law.answer; after = law.after; beside = c.set_line.ensures.beside ∙ c.read.ensures.beside; kept = (c.set_line.ensures.kept, law.kept); cached = search rules }

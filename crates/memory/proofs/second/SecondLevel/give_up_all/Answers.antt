@@ -15,11 +15,6 @@ loop-i-preserved g c =
       empty-after before after c.loop-i.i tied (omega arith) c.give_up.ensures.cached c.loop-i.invariant.3,
     )
 
-pub returns : goal.returns
-returns g c =
-    let m = g.M.Memory in
-    record {
-      words = sym (counted-empty (cached_of m.words c.loop-i.self) (λ j h. c.loop-i.invariant.3 j (omega arith))) ∙ c.loop-i.invariant.2;
-      beside = c.loop-i.invariant.1;
-      kept = c.loop-i.invariant.0.0;
-    }
+pub returns-clause-words : goal.returns-clause-words
+returns-clause-words g c =
+    sym (counted-empty (cached_of g.M.Memory.words c.loop-i.self) (λ j h. c.loop-i.invariant.3 j (omega arith))) ∙ c.loop-i.invariant.2
