@@ -43,7 +43,7 @@ pub enum Asked {
     Report,
 }
 
-// No command has this code.
+// No command has this code. It has neither `Display` nor `Error`: the reply to C has nothing to tell, and nothing prints it.
 #[derive(Clone, Copy)]
 pub struct UnknownCode {
     pub code: u32,

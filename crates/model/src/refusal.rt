@@ -6,6 +6,7 @@ ghost use Rattle.model.specs.Refusals.{run_refusal_number};
 use memory::MemoryError;
 use player::ListFault;
 
+// It stays in this crate, with neither `Display` nor `Error`: C is told its number, and nothing prints it.
 #[derive(Clone, Copy)]
 pub enum RunRefusal {
     // The words can't be a memory.

@@ -1,32 +1,55 @@
 // Every valid line of the snooping store and its bus report, after every turn, by hand. The central buffer is held to the
 // same answers, and both stores to the same words of the memory. All runs begin with 64 zero words.
-ghost use Rattle.snooping.specs.Snooping.{SoundSnooping};
+ghost use Rattle.std.specs.Prelude.{length};
+ghost use Rattle.memory.specs.Words.{MemorySize};
 
 use crate::turns::{commit, load, replace, squash, start, store};
 use memory::{Memory, WordMemory};
 use std::process::Abort;
-use std::test::Fail;
 use stores::{
-    Answer, BusReport, CentralBuffer, Line, LineState, Refusal, SnoopingStore, Turn, VersionStore,
+    Answer, BusKind, BusReport, CentralBuffer, Line, LineState, Refusal, SnoopingStore, Supplier,
+    Turn, VersionStore,
 };
 
-// A report in numbers: kind, address, supplier, invalidations, words written back.
-type Report = [u32; 5];
+// The bus reports, made here by hand: those of the store come from its own crate alone.
+const QUIET: BusReport = BusReport {
+    kind: BusKind::Quiet,
+    address: 0,
+    supplier: Supplier::Nobody,
+    invalidated: 0,
+    written: 0,
+};
 
-const QUIET: Report = [0, 0, 5, 0, 0];
-
-const MEMORY: u32 = 4;
-
-fn bus_read(a: u32, supplier: u32) -> Report {
-    [1, a, supplier, 0, 0]
+fn bus_read(a: u32, supplier: Supplier) -> BusReport {
+    BusReport {
+        kind: BusKind::BusRead,
+        address: a,
+        supplier,
+        ..QUIET
+    }
 }
 
-fn bus_write(a: u32, invalidations: u32) -> Report {
-    [2, a, 5, invalidations, 0]
+fn bus_write(a: u32, invalidated: u32) -> BusReport {
+    BusReport {
+        kind: BusKind::BusWrite,
+        address: a,
+        invalidated,
+        ..QUIET
+    }
 }
 
-fn bus_wback(a: u32, words: u32) -> Report {
-    [3, a, 5, 0, words]
+fn bus_wback(a: u32, written: u32) -> BusReport {
+    BusReport {
+        kind: BusKind::BusWback,
+        address: a,
+        written,
+        ..QUIET
+    }
+}
+
+// The cache of processor p as a supplier.
+fn cache(p: u32) -> Supplier {
+    Supplier::Processor { p }
 }
 
 // A line of processor p.
@@ -66,27 +89,17 @@ fn in_state(p: u32, state: LineState, tag: u32, word: u32, next: Option<u32>) ->
 struct Played<'a> {
     turn: Turn,
     answer: Answer,
-    report: Report,
+    report: BusReport,
     lines: &'a [Row],
 }
 
-fn step<'a>(turn: Turn, answer: Answer, report: Report, lines: &'a [Row]) -> Played<'a> {
+fn step<'a>(turn: Turn, answer: Answer, report: BusReport, lines: &'a [Row]) -> Played<'a> {
     Played {
         turn,
         answer,
         report,
         lines,
     }
-}
-
-fn in_numbers(report: BusReport) -> Report {
-    [
-        u32::from(report.kind.number()),
-        report.address,
-        report.supplier.number(),
-        report.invalidated,
-        report.written,
-    ]
 }
 
 // Line c of p as the rows have it: invalid, if they have none.
@@ -103,86 +116,67 @@ fn line_of(lines: &[Row], p: u32, c: u32) -> Line {
         .map_or(invalid, |row| row.line)
 }
 
-// Holds the report and all 64 lines to what is expected, and every row of it to its line.
-fn compare<M: Memory>(rt: &impl Abort, caches: &SnoopingStore<M>, report: Report, lines: &[Row])
-    requires { SoundSnooping M.Memory.words M.Memory.sound caches.now }
-{
-    assert_eq!(rt; in_numbers(caches.report()), report);
-    for p in 0..4 {
-        for c in 0..16 {
-            assert_eq!(rt; caches.line(p, c), Some(line_of(lines, p, c)));
+// A store that is looked at while turns are played on it.
+trait Watched: VersionStore {
+    // What the message of a failure calls it.
+    const NAME: &'static str;
+
+    // Holds what the store shows of its lines and its bus to what is expected.
+    fn compare(&self, rt: &impl Abort, report: BusReport, lines: &[Row])
+        requires { Self.sound self.now };
+}
+
+// All 64 lines are held to the rows, and every row to its line.
+impl<M: Memory> Watched for SnoopingStore<M> {
+    const NAME: &'static str = "snooping store";
+
+    fn compare(&self, rt: &impl Abort, report: BusReport, lines: &[Row]) {
+        assert_eq!(rt; self.report(), report);
+        for p in 0..4 {
+            for c in 0..16 {
+                assert_eq!(rt; self.line(p, c), Some(line_of(lines, p, c)));
+            }
+        }
+        for row in lines {
+            assert_eq!(rt; self.line(row.p, row.line.tag % 16), Some(row.line));
         }
     }
-    for row in lines {
-        assert_eq!(rt; caches.line(row.p, row.line.tag % 16), Some(row.line));
-    }
 }
 
-// Starts the tasks in their order, plays the turns, and looks at the store after each.
-fn watch<M: Memory>(
+// It shows neither lines nor a bus.
+impl<M: Memory> Watched for CentralBuffer<M> {
+    const NAME: &'static str = "central buffer";
+
+    fn compare(&self, _rt: &impl Abort, _report: BusReport, _lines: &[Row]) {}
+}
+
+// Starts the tasks in their order on a store over a row of words, plays the turns, and looks at the store after each. That
+// word memory is sound below this store as elsewhere is asked, since a bound does not say it.
+fn watch<'a, S: Watched<Below = WordMemory<'a>>>(
     rt: &impl Abort,
-    caches: &mut SnoopingStore<M>,
+    row: &'a mut [u32; 64],
     order: &[u32],
     played: &[Played],
-) -> Result<(), Fail>
-    requires { SoundSnooping M.Memory.words M.Memory.sound caches.old }
-    ensures kept { SoundSnooping M.Memory.words M.Memory.sound caches.new }
+)
+    requires { (memory : _) → MemorySize (length memory.row.now) → ⟦<S::Below as Memory>⟧.sound memory }
 {
-    compare(rt, caches, QUIET, &[]);
-    for p in order {
-        let active = caches.tasks();
-        assert_eq!(rt; caches.start(*p), Ok(active));
-        compare(rt, caches, QUIET, &[]);
-    }
-    for step in played {
-        assert_eq!(rt; caches.take_turn(step.turn), step.answer);
-        compare(rt, caches, step.report, step.lines);
-    }
-    Ok(())
-}
-
-// Plays the turns on the snooping store over 64 zero words, and holds the memory's words at the end to the given ones.
-fn on_caches(rt: &impl Abort, order: &[u32], played: &[Played], words: &[u32]) -> Result<(), Fail> {
-    let mut row = [0; 64];
-    WordMemory::check(&row)?;
-    let mut caches = SnoopingStore::open(WordMemory::open(&mut row));
-    let watched = watch(rt, &mut caches, order, played);
-    let back: &[u32] = caches.close().close();
-    watched?;
-    assert_eq!(rt; back, words, "a word below the caches differs");
-    Ok(())
-}
-
-// Plays the turns on any store and compares the answers.
-fn answer<S: VersionStore>(
-    rt: &impl Abort,
-    store: &mut S,
-    order: &[u32],
-    played: &[Played],
-) -> Result<(), Fail>
-    requires { S.VersionStore.sound store.old }
-    ensures kept { S.VersionStore.sound store.new }
-{
+    let mut store = S::open(WordMemory::open(row));
+    store.compare(rt, QUIET, &[]);
+    let name = S::NAME;
     for p in order {
         let active = store.tasks();
-        assert_eq!(rt; store.start(*p), Ok(active));
+        assert_eq!(rt; store.start(*p), Ok(active), "a start on the {name}");
+        store.compare(rt, QUIET, &[]);
     }
     for step in played {
-        assert_eq!(rt; store.take_turn(step.turn), step.answer);
+        assert_eq!(rt;
+            store.take_turn(step.turn),
+            step.answer,
+            "an answer of the {name} differs"
+        );
+        store.compare(rt, step.report, step.lines);
     }
-    Ok(())
-}
-
-// The same on the central buffer.
-fn on_buffer(rt: &impl Abort, order: &[u32], played: &[Played], words: &[u32]) -> Result<(), Fail> {
-    let mut row = [0; 64];
-    WordMemory::check(&row)?;
-    let mut buffer = CentralBuffer::open(WordMemory::open(&mut row));
-    let answered = answer(rt, &mut buffer, order, played);
-    let back: &[u32] = buffer.close().close();
-    answered?;
-    assert_eq!(rt; back, words, "a word below the buffer differs");
-    Ok(())
+    let _ = store.close();
 }
 
 // Puts the words at their addresses.
@@ -194,23 +188,43 @@ fn put_words(rt: &impl Abort, row: &mut [u32], words: &[(u32, u32)]) {
     }
 }
 
-// Tasks in this order, then these turns. At the end the memory has the given words at their addresses, and else 0.
-fn expect(
-    rt: &impl Abort,
-    order: &[u32],
-    played: &[Played],
-    left: &[(u32, u32)],
-) -> Result<(), Fail> {
+// Tasks in this order, then these turns, on both stores. At the end the memory has the given words at their addresses, and else 0.
+fn expect(rt: &impl Abort, order: &[u32], played: &[Played], left: &[(u32, u32)]) {
     let mut words = [0; 64];
     put_words(rt, &mut words, left);
-    on_caches(rt, order, played, &words)?;
-    on_buffer(rt, order, played, &words)
+    let mut below_caches = [0; 64];
+    watch::<SnoopingStore<WordMemory>>(rt, &mut below_caches, order, played);
+    assert_eq!(rt; below_caches, words, "a word below the caches differs");
+    let mut below_buffer = [0; 64];
+    watch::<CentralBuffer<WordMemory>>(rt, &mut below_buffer, order, played);
+    assert_eq!(rt; below_buffer, words, "a word below the buffer differs");
 }
 
 #[test]
-fn there_are_four_processors_and_sixteen_lines(rt: HostRuntime) -> Result<(), Fail> {
+fn kinds_and_suppliers_have_their_numbers(rt: HostRuntime) {
+    for (kind, number) in [
+        (BusKind::Quiet, 0),
+        (BusKind::BusRead, 1),
+        (BusKind::BusWrite, 2),
+        (BusKind::BusWback, 3),
+    ] {
+        assert_eq!(rt; kind.number(), number);
+    }
+    for (supplier, number) in [
+        (cache(0), 0),
+        (cache(1), 1),
+        (cache(2), 2),
+        (cache(3), 3),
+        (Supplier::Memory, 4),
+        (Supplier::Nobody, 5),
+    ] {
+        assert_eq!(rt; supplier.number(), number);
+    }
+}
+
+#[test]
+fn there_are_four_processors_and_sixteen_lines(rt: HostRuntime) {
     let mut row = [0; 64];
-    WordMemory::check(&row)?;
     let caches = SnoopingStore::open(WordMemory::open(&mut row));
     let found = [
         caches.line(3, 15).is_some(),
@@ -219,11 +233,10 @@ fn there_are_four_processors_and_sixteen_lines(rt: HostRuntime) -> Result<(), Fa
     ];
     let _ = caches.close();
     assert_eq!(rt; found, [true, false, false]);
-    Ok(())
 }
 
 #[test]
-fn a_load_sees_the_nearest_earlier_version(rt: HostRuntime) -> Result<(), Fail> {
+fn a_load_sees_the_nearest_earlier_version(rt: HostRuntime) {
     expect(
         &rt,
         &[0, 1, 2, 3],
@@ -243,7 +256,7 @@ fn a_load_sees_the_nearest_earlier_version(rt: HostRuntime) -> Result<(), Fail> 
             step(
                 load(1, 5),
                 Ok(7),
-                bus_read(5, 0),
+                bus_read(5, cache(0)),
                 &[
                     stored(0, 5, 7, Some(1)),
                     loaded(1, 5, 7, Some(2)),
@@ -252,12 +265,12 @@ fn a_load_sees_the_nearest_earlier_version(rt: HostRuntime) -> Result<(), Fail> 
             ),
         ],
         &[],
-    )
+    );
 }
 
 // The list of address 5 goes 2, 0, 3, 1. Squashing 3 cuts it after 0; storing at 2 then squashes the rest.
 #[test]
-fn a_squash_cuts_a_list_in_its_middle(rt: HostRuntime) -> Result<(), Fail> {
+fn a_squash_cuts_a_list_in_its_middle(rt: HostRuntime) {
     expect(
         &rt,
         &[2, 0, 3, 1],
@@ -271,7 +284,7 @@ fn a_squash_cuts_a_list_in_its_middle(rt: HostRuntime) -> Result<(), Fail> {
             step(
                 load(0, 5),
                 Ok(70),
-                bus_read(5, 2),
+                bus_read(5, cache(2)),
                 &[stored(2, 5, 70, Some(0)), loaded(0, 5, 70, None)],
             ),
             step(
@@ -287,7 +300,7 @@ fn a_squash_cuts_a_list_in_its_middle(rt: HostRuntime) -> Result<(), Fail> {
             step(
                 load(1, 5),
                 Ok(73),
-                bus_read(5, 3),
+                bus_read(5, cache(3)),
                 &[
                     stored(2, 5, 70, Some(0)),
                     loaded(0, 5, 70, Some(3)),
@@ -310,7 +323,7 @@ fn a_squash_cuts_a_list_in_its_middle(rt: HostRuntime) -> Result<(), Fail> {
             step(
                 load(1, 22),
                 Ok(4),
-                bus_read(22, 0),
+                bus_read(22, cache(0)),
                 &[
                     stored(2, 5, 70, Some(0)),
                     loaded(0, 5, 70, Some(3)),
@@ -353,7 +366,7 @@ fn a_squash_cuts_a_list_in_its_middle(rt: HostRuntime) -> Result<(), Fail> {
             step(
                 load(1, 5),
                 Ok(70),
-                bus_read(5, 2),
+                bus_read(5, cache(2)),
                 &[
                     stored(2, 5, 70, Some(0)),
                     loaded(0, 5, 70, Some(1)),
@@ -370,12 +383,12 @@ fn a_squash_cuts_a_list_in_its_middle(rt: HostRuntime) -> Result<(), Fail> {
             step(store(2, 5, 72), Ok(0), QUIET, &[stored(2, 5, 72, None)]),
         ],
         &[],
-    )
+    );
 }
 
 // Processor 0 commits as the oldest and starts again as the youngest. Addresses 17 and 2 have lines 1 and 2.
 #[test]
-fn a_processor_commits_and_starts_again(rt: HostRuntime) -> Result<(), Fail> {
+fn a_processor_commits_and_starts_again(rt: HostRuntime) {
     expect(
         &rt,
         &[0, 1, 2],
@@ -395,7 +408,7 @@ fn a_processor_commits_and_starts_again(rt: HostRuntime) -> Result<(), Fail> {
             step(
                 load(0, 9),
                 Ok(0),
-                bus_read(9, MEMORY),
+                bus_read(9, Supplier::Memory),
                 &[
                     stored(0, 17, 3, None),
                     stored(0, 2, 4, None),
@@ -405,7 +418,7 @@ fn a_processor_commits_and_starts_again(rt: HostRuntime) -> Result<(), Fail> {
             step(
                 load(1, 2),
                 Ok(4),
-                bus_read(2, 0),
+                bus_read(2, cache(0)),
                 &[
                     stored(0, 17, 3, None),
                     stored(0, 2, 4, Some(1)),
@@ -440,7 +453,7 @@ fn a_processor_commits_and_starts_again(rt: HostRuntime) -> Result<(), Fail> {
             step(
                 load(0, 17),
                 Ok(6),
-                bus_read(17, 2),
+                bus_read(17, cache(2)),
                 &[
                     stored(2, 17, 6, Some(0)),
                     loaded(0, 17, 6, None),
@@ -461,7 +474,7 @@ fn a_processor_commits_and_starts_again(rt: HostRuntime) -> Result<(), Fail> {
             step(
                 load(0, 2),
                 Ok(4),
-                bus_read(2, MEMORY),
+                bus_read(2, Supplier::Memory),
                 &[
                     stored(1, 17, 8, Some(2)),
                     stored(2, 17, 6, Some(0)),
@@ -489,12 +502,12 @@ fn a_processor_commits_and_starts_again(rt: HostRuntime) -> Result<(), Fail> {
             step(commit(0), Ok(0), QUIET, &[]),
         ],
         &[(17, 6), (2, 4)],
-    )
+    );
 }
 
 // The head replaces a word that another task has loaded. That task stores there, and then the head stores there again.
 #[test]
-fn stores_follow_a_replacement_by_the_head(rt: HostRuntime) -> Result<(), Fail> {
+fn stores_follow_a_replacement_by_the_head(rt: HostRuntime) {
     expect(
         &rt,
         &[1, 3, 0],
@@ -508,7 +521,7 @@ fn stores_follow_a_replacement_by_the_head(rt: HostRuntime) -> Result<(), Fail> 
             step(
                 load(3, 5),
                 Ok(7),
-                bus_read(5, 1),
+                bus_read(5, cache(1)),
                 &[stored(1, 5, 7, Some(3)), loaded(3, 5, 7, None)],
             ),
             step(
@@ -520,7 +533,7 @@ fn stores_follow_a_replacement_by_the_head(rt: HostRuntime) -> Result<(), Fail> 
             step(
                 load(0, 5),
                 Ok(7),
-                bus_read(5, MEMORY),
+                bus_read(5, Supplier::Memory),
                 &[loaded(3, 5, 7, Some(0)), loaded(0, 5, 7, None)],
             ),
             step(
@@ -533,7 +546,7 @@ fn stores_follow_a_replacement_by_the_head(rt: HostRuntime) -> Result<(), Fail> 
             step(
                 load(0, 5),
                 Ok(8),
-                bus_read(5, 3),
+                bus_read(5, cache(3)),
                 &[both(3, 5, 8, Some(0)), loaded(0, 5, 8, None)],
             ),
             step(
@@ -546,18 +559,18 @@ fn stores_follow_a_replacement_by_the_head(rt: HostRuntime) -> Result<(), Fail> 
             step(
                 load(1, 21),
                 Ok(0),
-                bus_read(21, MEMORY),
+                bus_read(21, Supplier::Memory),
                 &[loaded(1, 21, 0, None)],
             ),
             step(replace(1, 21), Ok(0), QUIET, &[]),
         ],
         &[(5, 9)],
-    )
+    );
 }
 
 // The line of 3 keeps its copy and its L when the line that it was copied from is gone.
 #[test]
-fn a_store_after_a_replacement_squashes(rt: HostRuntime) -> Result<(), Fail> {
+fn a_store_after_a_replacement_squashes(rt: HostRuntime) {
     expect(
         &rt,
         &[1, 3, 0],
@@ -571,7 +584,7 @@ fn a_store_after_a_replacement_squashes(rt: HostRuntime) -> Result<(), Fail> {
             step(
                 load(3, 5),
                 Ok(7),
-                bus_read(5, 1),
+                bus_read(5, cache(1)),
                 &[stored(1, 5, 7, Some(3)), loaded(3, 5, 7, None)],
             ),
             step(
@@ -588,11 +601,11 @@ fn a_store_after_a_replacement_squashes(rt: HostRuntime) -> Result<(), Fail> {
             ),
         ],
         &[(5, 7)],
-    )
+    );
 }
 
 #[test]
-fn a_store_needs_no_bus_with_an_own_word_and_no_pointer(rt: HostRuntime) -> Result<(), Fail> {
+fn a_store_needs_no_bus_with_an_own_word_and_no_pointer(rt: HostRuntime) {
     expect(
         &rt,
         &[0, 1, 2, 3],
@@ -600,7 +613,7 @@ fn a_store_needs_no_bus_with_an_own_word_and_no_pointer(rt: HostRuntime) -> Resu
             step(
                 load(3, 5),
                 Ok(0),
-                bus_read(5, MEMORY),
+                bus_read(5, Supplier::Memory),
                 &[loaded(3, 5, 0, None)],
             ),
             step(
@@ -645,12 +658,12 @@ fn a_store_needs_no_bus_with_an_own_word_and_no_pointer(rt: HostRuntime) -> Resu
             ),
         ],
         &[],
-    )
+    );
 }
 
 // Processor 2 has S at 5 alone, and is not reached; at 6 it has L too, and is.
 #[test]
-fn invalidations_end_at_the_next_own_word(rt: HostRuntime) -> Result<(), Fail> {
+fn invalidations_end_at_the_next_own_word(rt: HostRuntime) {
     expect(
         &rt,
         &[0, 1, 2, 3],
@@ -670,7 +683,7 @@ fn invalidations_end_at_the_next_own_word(rt: HostRuntime) -> Result<(), Fail> {
             step(
                 load(2, 6),
                 Ok(0),
-                bus_read(6, MEMORY),
+                bus_read(6, Supplier::Memory),
                 &[
                     stored(0, 5, 7, Some(2)),
                     stored(2, 5, 9, None),
@@ -695,11 +708,11 @@ fn invalidations_end_at_the_next_own_word(rt: HostRuntime) -> Result<(), Fail> {
             ),
         ],
         &[],
-    )
+    );
 }
 
 #[test]
-fn a_refused_turn_leaves_lines_and_report(rt: HostRuntime) -> Result<(), Fail> {
+fn a_refused_turn_leaves_lines_and_report(rt: HostRuntime) {
     let lines = [stored(0, 5, 7, None)];
     let report = bus_write(5, 6);
     expect(
@@ -721,5 +734,5 @@ fn a_refused_turn_leaves_lines_and_report(rt: HostRuntime) -> Result<(), Fail> {
             step(squash(1), Err(Refusal::IsHead), bus_wback(5, 1), &[]),
         ],
         &[(5, 7)],
-    )
+    );
 }
