@@ -66,12 +66,7 @@ fn no_turn_is_no_fault(rt: HostRuntime) -> Result<(), Fail> {
 #[test]
 fn the_images_fault_hides_the_texts(rt: HostRuntime) -> Result<(), Fail> {
     plays::<8>(&rt, &[], "stop 0\n", "fault image 9 0\n")?;
-    plays::<8>(
-        &rt,
-        &[0; 4],
-        "start 0\nstop 0\n",
-        "fault text 13 8\n",
-    )
+    plays::<8>(&rt, &[0; 4], "start 0\nstop 0\n", "fault text 13 8\n")
 }
 
 #[test]

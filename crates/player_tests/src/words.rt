@@ -10,6 +10,6 @@ fn the_words_come_in_their_order_as_the_memory_counts_them(rt: HostRuntime) -> R
     assert_eq!(rt; memory.write(1, 71), Ok(()));
     let words = words_of(rt.alloc(), &mut memory)?;
     let _ = memory.close();
-    assert_eq!(rt; words.as_slice(), [70, 71, 72]);
+    assert_eq!(rt; words.as_slice(), [70, 71, 72].as_slice());
     Ok(())
 }
