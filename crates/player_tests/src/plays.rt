@@ -1,5 +1,5 @@
 // Images and texts that are played on both stores, and their listings.
-ghost use Rattle.std.specs.Prelude.{◌≡◌, length};
+ghost use Rattle.std.specs.Prelude.{◌≡◌, ◌≤◌, length};
 ghost use Rattle.memory.specs.Words.{MemorySize};
 
 use memory::{Memory, WordMemory};
@@ -12,11 +12,12 @@ use stores::{CentralBuffer, SnoopingStore, Turn, VersionStore};
 // below this store as elsewhere is asked, since a bound does not say it.
 fn plays_on<'a, S: VersionStore<Below = WordMemory<'a>>, const PLACES: usize>(
     rt: &(impl Abort + AllocGlobal),
-    words: &'a mut [u32; 64],
+    words: &'a mut [u32],
     image: &[u8],
     text: &str,
     lines: &str,
 ) -> Result<(), Fail>
+    requires places { PLACES ≤ 8 }
     requires words { (memory : _) → ⟦<S::Below as Memory>⟧.words memory ≡ memory.row.now }
     requires sound { (memory : _) → MemorySize (length memory.row.now) → ⟦<S::Below as Memory>⟧.sound memory }
 {
@@ -30,6 +31,7 @@ fn plays_on<'a, S: VersionStore<Below = WordMemory<'a>>, const PLACES: usize>(
         image,
         text: text.as_bytes(),
     };
+    assert!(rt; WordMemory::check(words).is_ok());
     let (memory, outcome) = play_on::<S>(WordMemory::open(words), input, &mut lists);
     let told = listing(rt.alloc(), lists.answers.items(), outcome, memory.close())?;
     assert_eq!(rt; told.as_str(), lines, "{}", text);
@@ -42,7 +44,9 @@ fn plays<const PLACES: usize>(
     image: &[u8],
     text: &str,
     lines: &str,
-) -> Result<(), Fail> {
+) -> Result<(), Fail>
+    requires { PLACES ≤ 8 }
+{
     plays_on::<SnoopingStore<WordMemory>, PLACES>(rt, &mut [0; 64], image, text, lines)?;
     plays_on::<CentralBuffer<WordMemory>, PLACES>(rt, &mut [0; 64], image, text, lines)
 }
