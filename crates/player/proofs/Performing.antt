@@ -10,7 +10,7 @@ use Rattle.player.specs.declared.play.Lists.{Lists}
 use Rattle.player.specs.Faults.{ImageFault}
 use Rattle.player.specs.Image.{load_answer, loaded_words}
 use Rattle.player.specs.Lists.{content}
-use Rattle.player.specs.Scripts.{Performed, script_after, script_in, script_of}
+use Rattle.player.specs.Scripts.{Performed, PlayedOver, script_after, script_of}
 use Rattle.player.proofs.Adding.{gained-reads-on}
 
 -- an image that is refused
@@ -27,7 +27,7 @@ nothing-performed s e l vs words =
 
 pub refused-performed : (ws : List ℕ) (input : Input) (e : ImageFault) (l : Lists) (vs : List ℕ)
     → Err e ≡ load_answer (length ws) input.image.now → vs ≡ loaded_words ws input.image.now
-    → Performed (opened (loaded_words ws input.image.now)) (script_in ws input l) l l (Err (Image e)) vs
+    → PlayedOver ws input l l (Err (Image e)) vs
 refused-performed ws input e l vs refused words =
     subst (λ (x : Result (Unit {0}) ImageFault). Performed (opened (loaded_words ws input.image.now)) (script_after x (script_of l input.text.now)) l l (Err (Image e)) vs) refused
     (nothing-performed (opened (loaded_words ws input.image.now)) e l vs words)

@@ -2,7 +2,7 @@
 use Rattle.std.specs.Prelude.{◌≡◌, ℕ, cond, List, [], ◌++◌, length, take, drop, Ok, Err, Result, nat_lt}
 use Rattle.versions.specs.declared.refusal.Refusal.{Refusal}
 use Rattle.versions.specs.declared.turn.Turn.{Turn}
-use Rattle.versions.specs.Plain.{Plain, memory_words, active_tasks, answers_of, state_after_all}
+use Rattle.versions.specs.Plain.{Plain, opened, memory_words, active_tasks, answers_of, state_after_all}
 use Rattle.versions.specs.Sequential.{ReadsOn, paired}
 use Rattle.player.specs.declared.fault.ListFault.TheVariants.{Full}
 use Rattle.player.specs.declared.fault.PlayerFault.{PlayerFault}
@@ -11,7 +11,7 @@ use Rattle.player.specs.declared.list.RowList.{RowList}
 use Rattle.player.specs.declared.play.Input.{Input}
 use Rattle.player.specs.declared.play.Lists.{Lists}
 use Rattle.player.specs.Faults.{ImageFault, TextFault}
-use Rattle.player.specs.Image.{load_answer}
+use Rattle.player.specs.Image.{load_answer, loaded_words}
 use Rattle.player.specs.Lists.{content, free, room, row_of}
 use Rattle.player.specs.Text.{text_read, written}
 
@@ -69,3 +69,7 @@ pub record Performed (s : Plain) (k : Script) (l l' : Lists) (r : Result ℕ Pla
   pub words : vs ≡ memory_words (state_after_all s k.played)
   -- and the turns that are played, with these answers, read sequentially
   pub sequential : ReadsOn s (paired k.played (drop (length (content l.answers)) (content l'.answers))) (state_after_all s k.played)
+
+-- an image and a text are played over a memory with the words ws
+abbrev pub PlayedOver : List ℕ → Input → Lists → Lists → Result ℕ PlayerFault → List ℕ → Type 0
+PlayedOver ws input l l' r vs = Performed (opened (loaded_words ws input.image.now)) (script_in ws input l) l l' r vs

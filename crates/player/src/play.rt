@@ -1,10 +1,9 @@
 // Playing a text of turns over a memory that an image fills: image first, then the whole text, then turn by turn.
 ghost use Rattle.std.specs.Prelude.{◌≡◌, length, take, drop};
-ghost use Rattle.versions.specs.Plain.{opened, active_tasks, answers_of, state_after_all};
+ghost use Rattle.versions.specs.Plain.{active_tasks, answers_of, state_after_all};
 ghost use Rattle.versions.specs.Sequential.{ReadsOn, paired};
-ghost use Rattle.player.specs.Image.{loaded_words};
 ghost use Rattle.player.specs.Lists.{content, free};
-ghost use Rattle.player.specs.Scripts.{Gained, Performed, places_answer, script_in, script_of, told};
+ghost use Rattle.player.specs.Scripts.{Gained, PlayedOver, places_answer, script_of, told};
 
 use crate::fault::{ListFault, PlayerFault};
 use crate::list::RowList;
@@ -35,7 +34,7 @@ pub fn play_on<S: VersionStore>(
     lists: &mut Lists,
 ) -> (S::Below, Result<u32, PlayerFault>)
     requires { S.Below.Memory.sound memory }
-    ensures performed { Performed (opened (loaded_words (S.Below.Memory.words memory) input.entry.image.now)) (script_in (S.Below.Memory.words memory) input.entry lists.old) lists.old lists.new result.1 (S.Below.Memory.words result.0) }
+    ensures performed { PlayedOver (S.Below.Memory.words memory) input.entry lists.old lists.new result.1 (S.Below.Memory.words result.0) }
     ensures beside { S.Below.Memory.spare result.0 ≡ S.Below.Memory.spare memory }
     ensures kept { S.Below.Memory.sound result.0 }
 {
@@ -60,8 +59,8 @@ pub fn play_both<M: Memory, N: Memory>(
 ) -> ((M, Result<u32, PlayerFault>), (N, Result<u32, PlayerFault>))
     requires one_sound { M.Memory.sound one }
     requires other_sound { N.Memory.sound other }
-    ensures one { Performed (opened (loaded_words (M.Memory.words one) input.entry.image.now)) (script_in (M.Memory.words one) input.entry snooped.old) snooped.old snooped.new result.0.1 (M.Memory.words result.0.0) }
-    ensures other { Performed (opened (loaded_words (N.Memory.words other) input.entry.image.now)) (script_in (N.Memory.words other) input.entry buffered.old) buffered.old buffered.new result.1.1 (N.Memory.words result.1.0) }
+    ensures one { PlayedOver (M.Memory.words one) input.entry snooped.old snooped.new result.0.1 (M.Memory.words result.0.0) }
+    ensures other { PlayedOver (N.Memory.words other) input.entry buffered.old buffered.new result.1.1 (N.Memory.words result.1.0) }
     ensures alike { M.Memory.words one ≡ N.Memory.words other → free snooped.old.turns ≡ free buffered.old.turns → free snooped.old.answers ≡ free buffered.old.answers → content snooped.old.answers ≡ content buffered.old.answers → (result.0.1 ≡ result.1.1) × (content snooped.new.answers ≡ content buffered.new.answers) × (M.Memory.words result.0.0 ≡ N.Memory.words result.1.0) }
     ensures beside { (M.Memory.spare result.0.0 ≡ M.Memory.spare one) × (N.Memory.spare result.1.0 ≡ N.Memory.spare other) }
     ensures kept { M.Memory.sound result.0.0 × N.Memory.sound result.1.0 }
