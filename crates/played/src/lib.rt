@@ -5,8 +5,7 @@ ghost use Rattle.std.specs.Prelude.{◌≡◌, ℕ, ◌≤◌, List, length, IfO
 ghost use Rattle.played.specs.Played.{listing_played};
 
 use files::read_start;
-use memory::Memory;
-use player::{RowList, listing, play_on};
+use player::{Input, Lists, RowList, listing, play_on, words_of};
 use std::alloc::Global;
 use std::fs::Files;
 use stores::{Turn, VersionStore};
@@ -30,38 +29,31 @@ where
 {
     let image = read_start(rt, "image.bin", MOST_BYTES)?;
     let text = read_start(rt, "turns.txt", MOST_BYTES)?;
-    listing_of::<S>(rt.alloc(), memory, image.as_slice(), text.as_slice())
+    let input = Input {
+        image: image.as_slice(),
+        text: text.as_slice(),
+    };
+    listing_of::<S>(rt.alloc(), memory, input)
 }
 
 // The listing of a text of turns that is played over an image.
 pub fn listing_of<S: VersionStore>(
     heap: Global,
     memory: S::Below,
-    image: &[u8],
-    text: &[u8],
+    input: Input,
 ) -> anyhow::Result<String>
 where
     S::Below: Drop,
     requires { S.Below.Memory.sound memory }
-    ensures { IfOk result (λ listing. string_bytes listing ≡ listing_played MOST_TURNS (S.Below.Memory.words memory) image.now text.now) }
+    ensures { IfOk result (λ listing. string_bytes listing ≡ listing_played MOST_TURNS (S.Below.Memory.words memory) input.entry.image.now input.entry.text.now) }
 {
     let mut turn_row = vec![in heap; Turn::Start { p: 0 }; MOST_TURNS]?;
     let mut answer_row = vec![in heap; Ok(0); MOST_TURNS]?;
-    let mut turns = RowList::new(turn_row.as_mut_slice());
-    let mut answers = RowList::new(answer_row.as_mut_slice());
-    let (mut memory, outcome) = play_on::<S>(memory, image, text, &mut turns, &mut answers);
+    let mut lists = Lists {
+        turns: RowList::new(turn_row.as_mut_slice()),
+        answers: RowList::new(answer_row.as_mut_slice()),
+    };
+    let (mut memory, outcome) = play_on::<S>(memory, input, &mut lists);
     let words = words_of(heap, &mut memory)?;
-    Ok(listing(heap, answers.items(), outcome, words.as_slice())?)
-}
-
-// The words of a memory, in their order. A memory shows no slice: its words are asked by address.
-fn words_of<M: Memory>(heap: Global, memory: &mut M) -> anyhow::Result<Vec<u32>>
-    requires { M.Memory.sound memory.old }
-    ensures { IfOk result (λ words. words.items ≡ M.Memory.words memory.old) }
-{
-    let mut words = Vec::new(heap);
-    for a in 0..memory.size() {
-        words.push(memory.read(a)?)?;
-    }
-    Ok(words)
+    Ok(listing(heap, lists.answers.items(), outcome, words.as_slice())?)
 }

@@ -3,9 +3,9 @@ use Rattle.std.proofs.Common.{◌≡◌, ℕ, ◌+◌, ◌*◌, ◌<◌, ◌≤�
 use Rattle.std.proofs.lemmas.List.Sums.{sum_by-cons}
 use Rattle.std.proofs.lemmas.Bool.{cond-true, cond-false, or_parts, eq-eqb, ne_eqb, lt-ltb, le-ltb, ltb-false, eqb-true, not-false, not_from_true, not_from_false}
 use Rattle.memory.specs.Bytes.{words_of}
-use Rattle.player.specs.declared.fault.ImageFault.{ImageFault}
 use Rattle.player.specs.declared.fault.ImageWhy.TheVariants.{Length, PairCount, PairOrder, PairOutside}
 use Rattle.player.specs.declared.image.Pair.{Pair}
+use Rattle.player.specs.Faults.{ImageFault}
 use Rattle.player.specs.Image.{first_pairs, pair_conditions, first_fault, fault_at, pair_end, Inside, answer_unless, words_taken, image_fault, load_answer}
 
 -- one pair more takes its words

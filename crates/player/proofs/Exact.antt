@@ -9,11 +9,11 @@ use Rattle.std.proofs.lemmas.List.{append_assoc, append-nil, length-append, take
 use Rattle.std.proofs.lemmas.Bool.{and_parts, not-true, eqb-true, eqb-false, ltb-true}
 use Rattle.versions.specs.declared.turn.Turn.{Turn}
 use Rattle.player.specs.declared.fault.ListFault.TheVariants.{Full}
-use Rattle.player.specs.declared.fault.TextFault.{TextFault}
 use Rattle.player.specs.declared.fault.TextWhy.{TextWhy}
 use Rattle.player.specs.declared.fault.TextWhy.TheVariants as why
 use Rattle.player.specs.declared.verb.Verb.{Verb}
 use Rattle.player.specs.declared.verb.Verb.TheVariants as verb
+use Rattle.player.specs.Faults.{TextFault}
 use Rattle.player.specs.Fields.{plain_decimal, small, field_of}
 use Rattle.player.specs.Lines.{field_before, fields_of, turn_of_fields, turn_of_verb, turn_of_parts, turn_of, unfinished}
 use Rattle.player.specs.Left.{before, after, further}

@@ -4,29 +4,30 @@ use Rattle.std.proofs.lemmas.List.{append-nil}
 use Rattle.versions.specs.declared.refusal.Refusal.{Refusal}
 use Rattle.versions.specs.declared.turn.Turn.{Turn}
 use Rattle.versions.specs.Plain.{Plain, opened, memory_words}
-use Rattle.player.specs.declared.fault.ImageFault.{ImageFault}
 use Rattle.player.specs.declared.fault.PlayerFault.TheVariants.{Image}
-use Rattle.player.specs.declared.list.RowList.{RowList}
+use Rattle.player.specs.declared.play.Input.{Input}
+use Rattle.player.specs.declared.play.Lists.{Lists}
+use Rattle.player.specs.Faults.{ImageFault}
 use Rattle.player.specs.Image.{load_answer, loaded_words}
-use Rattle.player.specs.Lists.{content, free}
-use Rattle.player.specs.Scripts.{Performed, script_after, script_in, text_script}
+use Rattle.player.specs.Lists.{content}
+use Rattle.player.specs.Scripts.{Performed, PlayedOver, script_after, script_of}
 use Rattle.player.proofs.Adding.{gained-reads-on}
 
 -- an image that is refused
-nothing-performed : (s : Plain) (e : ImageFault) (l : RowList Turn) (a : RowList (Result ℕ Refusal)) (vs : List ℕ) → vs ≡ memory_words s
-    → Performed s (record { read = []; played = []; answer = Err (Image e) }) l l a a (Err (Image e)) vs
-nothing-performed s e l a vs words =
+nothing-performed : (s : Plain) (e : ImageFault) (l : Lists) (vs : List ℕ) → vs ≡ memory_words s
+    → Performed s (record { read = []; played = []; answer = Err (Image e) }) l l (Err (Image e)) vs
+nothing-performed s e l vs words =
     record {
       outcome = refl;
-      turns = (sym (append-nil (content l)), refl, refl);
-      answers = (sym (append-nil (content a)), refl, refl);
+      turns = (sym (append-nil (content l.turns)), refl, refl);
+      answers = (sym (append-nil (content l.answers)), refl, refl);
       words = words;
-      sequential = gained-reads-on s s [] (content a) (content a) (sym (append-nil (content a))) refl;
+      sequential = gained-reads-on s s [] (content l.answers) (content l.answers) (sym (append-nil (content l.answers))) refl;
     }
 
-pub refused-performed : (ws image text : List ℕ) (e : ImageFault) (l : RowList Turn) (a : RowList (Result ℕ Refusal)) (vs : List ℕ)
-    → Err e ≡ load_answer (length ws) image → vs ≡ loaded_words ws image
-    → Performed (opened (loaded_words ws image)) (script_in ws image text l a) l l a a (Err (Image e)) vs
-refused-performed ws image text e l a vs refused words =
-    subst (λ (x : Result (Unit {0}) ImageFault). Performed (opened (loaded_words ws image)) (script_after x (text_script (free l) (free a) text)) l l a a (Err (Image e)) vs) refused
-    (nothing-performed (opened (loaded_words ws image)) e l a vs words)
+pub refused-performed : (ws : List ℕ) (input : Input) (e : ImageFault) (l : Lists) (vs : List ℕ)
+    → Err e ≡ load_answer (length ws) input.image.now → vs ≡ loaded_words ws input.image.now
+    → PlayedOver ws input l l (Err (Image e)) vs
+refused-performed ws input e l vs refused words =
+    subst (λ (x : Result (Unit {0}) ImageFault). Performed (opened (loaded_words ws input.image.now)) (script_after x (script_of l input.text.now)) l l (Err (Image e)) vs) refused
+    (nothing-performed (opened (loaded_words ws input.image.now)) e l vs words)

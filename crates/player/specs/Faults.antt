@@ -6,13 +6,24 @@ use Rattle.player.specs.declared.fault.ImageWhy.{ImageWhy}
 use Rattle.player.specs.declared.fault.ImageWhy.TheVariants.{Length, PairCount, PairOrder, PairOutside}
 use Rattle.player.specs.declared.fault.TextWhy.{TextWhy}
 use Rattle.player.specs.declared.fault.TextWhy.TheVariants.{Verb, Field, TooLarge, List as ListWhy}
+use Rattle.player.specs.declared.fault.Fault.{Fault}
 use Rattle.player.specs.declared.fault.Layer.{Layer}
 use Rattle.player.specs.declared.fault.Layer.TheVariants.{Image as ImageLayer, Text as TextLayer, List as ListLayer}
 use Rattle.player.specs.declared.fault.PlayerFault.{PlayerFault}
 use Rattle.player.specs.declared.fault.PlayerFault.TheVariants.{Image, Text, Results}
 
+abbrev pub ImageFault : Type 0
+ImageFault = Fault ImageWhy
+
+abbrev pub TextFault : Type 0
+TextFault = Fault TextWhy
+
 abbrev pub list_number : ListFault → ℕ
 list_number Full = 16
+
+-- how a list's fault is written where no text or player tells it
+abbrev pub list_text : ListFault → List ℕ
+list_text e = codes "no " ++ decimal (list_number e)
 
 abbrev pub image_number : ImageWhy → ℕ
 image_number Length = 9

@@ -4,10 +4,10 @@ use Rattle.std.specs.Prelude.{◌≡◌, ℕ, ◌+◌, ◌*◌, ◌<◌, ◌≤�
 use Rattle.std.proofs.Math.Seq.{paste}
 use Rattle.std.specs.List.{AllByRecursion}
 use Rattle.memory.specs.Bytes.{words_of}
-use Rattle.player.specs.declared.fault.ImageFault.{ImageFault}
 use Rattle.player.specs.declared.fault.ImageWhy.{ImageWhy}
 use Rattle.player.specs.declared.fault.ImageWhy.TheVariants.{Length, PairCount, PairOrder, PairOutside}
 use Rattle.player.specs.declared.image.Pair.{Pair}
+use Rattle.player.specs.Faults.{ImageFault}
 
 -- the number of pairs, as the first number says
 abbrev pub pair_count : List ℕ → ℕ

@@ -2,15 +2,16 @@
 use Rattle.std.specs.Prelude.{◌≡◌, ℕ, cond, List, [], ◌++◌, length, take, drop, Ok, Err, Result, nat_lt}
 use Rattle.versions.specs.declared.refusal.Refusal.{Refusal}
 use Rattle.versions.specs.declared.turn.Turn.{Turn}
-use Rattle.versions.specs.Plain.{Plain, memory_words, active_tasks, answers_of, state_after_all}
+use Rattle.versions.specs.Plain.{Plain, opened, memory_words, active_tasks, answers_of, state_after_all}
 use Rattle.versions.specs.Sequential.{ReadsOn, paired}
-use Rattle.player.specs.declared.fault.ImageFault.{ImageFault}
 use Rattle.player.specs.declared.fault.ListFault.TheVariants.{Full}
 use Rattle.player.specs.declared.fault.PlayerFault.{PlayerFault}
 use Rattle.player.specs.declared.fault.PlayerFault.TheVariants.{Image, Text, Results}
-use Rattle.player.specs.declared.fault.TextFault.{TextFault}
 use Rattle.player.specs.declared.list.RowList.{RowList}
-use Rattle.player.specs.Image.{load_answer}
+use Rattle.player.specs.declared.play.Input.{Input}
+use Rattle.player.specs.declared.play.Lists.{Lists}
+use Rattle.player.specs.Faults.{ImageFault, TextFault}
+use Rattle.player.specs.Image.{load_answer, loaded_words}
 use Rattle.player.specs.Lists.{content, free, room, row_of}
 use Rattle.player.specs.Text.{text_read, written}
 
@@ -37,9 +38,13 @@ abbrev pub script_after : Result (Unit {0}) ImageFault → Script → Script
 script_after (Ok u) s = s
 script_after (Err e) s = record { read = []; played = []; answer = Err (Image e) }
 
--- an image over the words ws and a text, with the lists for turns and answers
-abbrev pub script_in : List ℕ → List ℕ → List ℕ → RowList Turn → RowList (Result ℕ Refusal) → Script
-script_in ws image text turns answers = script_after (load_answer (length ws) image) (text_script (free turns) (free answers) text)
+-- a text, with the lists for turns and answers
+abbrev pub script_of : Lists → List ℕ → Script
+script_of lists text = text_script (free lists.turns) (free lists.answers) text
+
+-- an image over the words ws, and a text
+abbrev pub script_in : List ℕ → Input → Lists → Script
+script_in ws input lists = script_after (load_answer (length ws) input.image.now) (script_of lists input.text.now)
 
 -- what is told in the end: the fault, or the number of active tasks
 abbrev pub told : Result (Unit {0}) PlayerFault → ℕ → Result ℕ PlayerFault
@@ -53,14 +58,18 @@ Gained l xs l' =
     × (row_of l' ≡ written (row_of l) (length (content l)) xs)
     × (room l' ≡ room l)
 
--- a script k is performed from the state s on: the list of turns and that of answers, before and
--- after, what is told, and the memory's words once the store is closed
-pub record Performed (s : Plain) (k : Script) (l l' : RowList Turn) (a a' : RowList (Result ℕ Refusal)) (r : Result ℕ PlayerFault) (vs : List ℕ) : Type 0 where
+-- a script k is performed from the state s on: the lists before and after, what is told, and the memory's words once the
+-- store is closed
+pub record Performed (s : Plain) (k : Script) (l l' : Lists) (r : Result ℕ PlayerFault) (vs : List ℕ) : Type 0 where
   -- the fault, or the number of active tasks
   pub outcome : r ≡ told k.answer (active_tasks (state_after_all s k.played))
   -- the turns that are read, and the answers to those that are played
-  pub turns : Gained l k.read l'
-  pub answers : Gained a (answers_of s k.played) a'
+  pub turns : Gained l.turns k.read l'.turns
+  pub answers : Gained l.answers (answers_of s k.played) l'.answers
   pub words : vs ≡ memory_words (state_after_all s k.played)
   -- and the turns that are played, with these answers, read sequentially
-  pub sequential : ReadsOn s (paired k.played (drop (length (content a)) (content a'))) (state_after_all s k.played)
+  pub sequential : ReadsOn s (paired k.played (drop (length (content l.answers)) (content l'.answers))) (state_after_all s k.played)
+
+-- an image and a text are played over a memory with the words ws
+abbrev pub PlayedOver : List ℕ → Input → Lists → Lists → Result ℕ PlayerFault → List ℕ → Type 0
+PlayedOver ws input l l' r vs = Performed (opened (loaded_words ws input.image.now)) (script_in ws input l) l l' r vs

@@ -2,9 +2,9 @@
 use Rattle.std.specs.Prelude.{ℕ, ◌+◌, ◌-◌, cond, List, [], ◌∷◌, length, Ok, Err, Result, nat_lt, slice_set}
 use Rattle.versions.specs.declared.turn.Turn.{Turn}
 use Rattle.player.specs.declared.fault.ListFault.TheVariants.{Full}
-use Rattle.player.specs.declared.fault.TextFault.{TextFault}
 use Rattle.player.specs.declared.fault.TextWhy.{TextWhy}
 use Rattle.player.specs.declared.fault.TextWhy.TheVariants as why
+use Rattle.player.specs.Faults.{TextFault}
 use Rattle.player.specs.Lines.{turn_of, unfinished}
 use Rattle.player.specs.Splits.{split, line_end}
 

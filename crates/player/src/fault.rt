@@ -3,7 +3,7 @@
 ghost use Rattle.std.specs.Prelude.{◌≡◌, List, Some};
 ghost use Rattle.player.specs.declared.fault.PlayerFault.TheVariants.{Image as AnImage, Text as ATurnText};
 ghost use Rattle.player.specs.declared.fault.TextWhy.TheVariants.{List as AList};
-ghost use Rattle.player.specs.Faults.{list_number, text_number, image_number, text_layer, layer_of, number_of, place_of, layer_word, fault_text};
+ghost use Rattle.player.specs.Faults.{list_number, list_text, text_number, image_number, text_layer, layer_of, number_of, place_of, layer_word, fault_text};
 ghost use Rattle.player.specs.Image.{fault_at};
 
 use std::error::Error;
@@ -23,6 +23,17 @@ impl ListFault {
         self as u8
     }
 }
+
+impl fmt::Display for ListFault {
+    ghost output = { λ e. Some (list_text e) };
+
+    fn fmt<W: fmt::Write>(&self, f: &mut fmt::Formatter<W>) -> fmt::Result {
+        let number = self.number();
+        write!(f, "no {number}")
+    }
+}
+
+impl Error for ListFault {}
 
 #[derive(Clone, Copy, PartialEq, Debug)]
 pub enum ImageWhy {
@@ -50,14 +61,6 @@ impl ImageWhy {
     {
         ImageFault { why: self, place }
     }
-}
-
-// A fault of an image. Its place is the first byte of the pair or of the count, and the image's length where that is at
-// fault.
-#[derive(Clone, Copy, PartialEq, Debug)]
-pub struct ImageFault {
-    pub why: ImageWhy,
-    pub place: usize,
 }
 
 #[derive(Clone, Copy, PartialEq, Debug)]
@@ -104,12 +107,19 @@ impl From<ListFault> for TextWhy {
     }
 }
 
-// A fault of a turn text. Its place is the first byte of the line.
+// Why some bytes were refused, and at which of them.
 #[derive(Clone, Copy, PartialEq, Debug)]
-pub struct TextFault {
-    pub why: TextWhy,
+pub struct Fault<W> {
+    pub why: W,
     pub place: usize,
 }
+
+// A fault of an image. Its place is the first byte of the pair or of the count, and the image's length where that is at
+// fault.
+pub type ImageFault = Fault<ImageWhy>;
+
+// A fault of a turn text. Its place is the first byte of the line.
+pub type TextFault = Fault<TextWhy>;
 
 // The layer at which something was refused.
 #[derive(Clone, Copy, PartialEq, Debug)]
@@ -135,7 +145,8 @@ impl fmt::Display for Layer {
 pub enum PlayerFault {
     Image(ImageFault),
     Text(TextFault),
-    // There was no place for the answer to this turn, counted from 0, and it was not played.
+    // There was no place for the answer to this turn, counted from 0, and it was not played. (No `Fault<ListFault>`: its place
+    // would be a byte.)
     Results { fault: ListFault, turn: usize },
 }
 
@@ -199,3 +210,24 @@ impl fmt::Display for PlayerFault {
 }
 
 impl Error for PlayerFault {}
+
+// A fault of an image or of a text has the player's line.
+impl fmt::Display for ImageFault {
+    ghost output = { λ e. Some (fault_text (AnImage e)) };
+
+    fn fmt<W: fmt::Write>(&self, f: &mut fmt::Formatter<W>) -> fmt::Result {
+        PlayerFault::Image(*self).fmt(f)
+    }
+}
+
+impl Error for ImageFault {}
+
+impl fmt::Display for TextFault {
+    ghost output = { λ e. Some (fault_text (ATurnText e)) };
+
+    fn fmt<W: fmt::Write>(&self, f: &mut fmt::Formatter<W>) -> fmt::Result {
+        PlayerFault::Text(*self).fmt(f)
+    }
+}
+
+impl Error for TextFault {}

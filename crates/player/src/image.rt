@@ -82,8 +82,6 @@ fn lay_image<M: Memory>(memory: &mut M, image: &[u8])
     requires sound { M.Memory.sound memory.old }
     requires accepted { Ok tt ≡ load_answer (length (M.Memory.words memory.old)) image.now }
     ensures after { M.Memory.words memory.new ≡ loaded_words (M.Memory.words memory.old) image.now }
-    ensures laid { HoldsPairs (pairs_of image.now) (image_words image.now) (M.Memory.words memory.new) }
-    ensures outside { (a : ℕ) → OutsidePairs a (pairs_of image.now) → slice_index (M.Memory.words memory.new) a ≡ slice_index (M.Memory.words memory.old) a }
     ensures beside { M.Memory.spare memory.new ≡ M.Memory.spare memory.old }
     ensures kept { M.Memory.sound memory.new }
 {

@@ -14,11 +14,11 @@ mod token;
 mod verb;
 mod write;
 
-pub use fault::{ImageFault, ImageWhy, Layer, ListFault, PlayerFault, TextFault, TextWhy};
+pub use fault::{Fault, ImageFault, ImageWhy, Layer, ListFault, PlayerFault, TextFault, TextWhy};
 pub use image::load_image;
 pub use list::RowList;
 pub use loading::Loading;
-pub use output::listing;
-pub use play::{play_both, play_on, play_text};
+pub use output::{listing, words_of};
+pub use play::{Input, Lists, play_both, play_on, play_text};
 pub use text::read_turns;
 pub use write::{write_turn, write_turns};

@@ -4,6 +4,7 @@ ghost use Rattle.std.specs.Prelude.{◌≡◌, ◌++◌, IfOk, string_bytes};
 ghost use Rattle.player.specs.Listings.{answer_lines, word_lines, tasks_line, listing_of};
 
 use crate::fault::PlayerFault;
+use memory::Memory;
 use std::alloc::{AllocError, Global};
 use std::fmt::Write;
 use stores::Answer;
@@ -52,4 +53,20 @@ fn write_words(text: &mut String, words: &[u32]) -> Result<(), AllocError>
         }
     }
     Ok(())
+}
+
+// The words of a memory, in their order. A memory shows no slice: its words are asked by address.
+pub fn words_of<M: Memory>(heap: Global, memory: &mut M) -> Result<Vec<u32>, AllocError>
+    requires { M.Memory.sound memory.old }
+    ensures words { IfOk result (λ words. words.items ≡ M.Memory.words memory.old) }
+    ensures after { M.Memory.words memory.new ≡ M.Memory.words memory.old }
+    ensures beside { M.Memory.spare memory.new ≡ M.Memory.spare memory.old }
+    ensures kept { M.Memory.sound memory.new }
+{
+    let mut words = Vec::new(heap);
+    for a in 0..memory.size() {
+        // The address is below the size, so the memory gives the word.
+        words.push(memory.read(a).unwrap())?;
+    }
+    Ok(words)
 }

@@ -1,10 +1,9 @@
 // Playing a text of turns over a memory that an image fills: image first, then the whole text, then turn by turn.
 ghost use Rattle.std.specs.Prelude.{◌≡◌, length, take, drop};
-ghost use Rattle.versions.specs.Plain.{opened, active_tasks, answers_of, state_after_all};
+ghost use Rattle.versions.specs.Plain.{active_tasks, answers_of, state_after_all};
 ghost use Rattle.versions.specs.Sequential.{ReadsOn, paired};
-ghost use Rattle.player.specs.Image.{loaded_words};
 ghost use Rattle.player.specs.Lists.{content, free};
-ghost use Rattle.player.specs.Scripts.{Gained, Performed, places_answer, script_in, text_script, told};
+ghost use Rattle.player.specs.Scripts.{Gained, PlayedOver, places_answer, script_of, told};
 
 use crate::fault::{ListFault, PlayerFault};
 use crate::list::RowList;
@@ -13,26 +12,38 @@ use crate::text::read_turns;
 use memory::Memory;
 use stores::{Answer, CentralBuffer, SnoopingStore, Turn, VersionStore};
 
+// The lists for the turns of a text and for the answers to them.
+#[derive(Drop)]
+pub struct Lists<'a> {
+    pub turns: RowList<'a, Turn>,
+    pub answers: RowList<'a, Answer>,
+}
+
+// What is played: a text of turns, over a memory that an image fills.
+#[derive(Clone, Copy)]
+pub struct Input<'a> {
+    pub image: &'a [u8],
+    pub text: &'a [u8],
+}
+
 // Loads an image into a memory and plays a text of turns over it on a version store S: image first, then the whole text, then
 // turn by turn. It gives the memory back, with the number of active tasks or the fault. A refused image changes nothing.
 pub fn play_on<S: VersionStore>(
     memory: S::Below,
-    image: &[u8],
-    text: &[u8],
-    turns: &mut RowList<Turn>,
-    answers: &mut RowList<Answer>,
+    input: Input,
+    lists: &mut Lists,
 ) -> (S::Below, Result<u32, PlayerFault>)
     requires { S.Below.Memory.sound memory }
-    ensures performed { Performed (opened (loaded_words (S.Below.Memory.words memory) image.now)) (script_in (S.Below.Memory.words memory) image.now text.now turns.old answers.old) turns.old turns.new answers.old answers.new result.1 (S.Below.Memory.words result.0) }
+    ensures performed { PlayedOver (S.Below.Memory.words memory) input.entry lists.old lists.new result.1 (S.Below.Memory.words result.0) }
     ensures beside { S.Below.Memory.spare result.0 ≡ S.Below.Memory.spare memory }
     ensures kept { S.Below.Memory.sound result.0 }
 {
     let mut loading = Loading::new(memory);
-    if let Err(fault) = loading.load(image) {
+    if let Err(fault) = loading.load(input.image) {
         return (loading.close(), Err(PlayerFault::Image(fault)));
     }
     let mut store = loading.open::<S>();
-    let outcome = play_text(&mut store, text, turns, answers);
+    let outcome = play_text(&mut store, input.text, lists);
     (store.close(), outcome)
 }
 
@@ -42,51 +53,48 @@ pub fn play_on<S: VersionStore>(
 pub fn play_both<M: Memory, N: Memory>(
     one: M,
     other: N,
-    image: &[u8],
-    text: &[u8],
-    turns: &mut RowList<Turn>,
-    snooped: &mut RowList<Answer>,
-    again: &mut RowList<Turn>,
-    buffered: &mut RowList<Answer>,
+    input: Input,
+    snooped: &mut Lists,
+    buffered: &mut Lists,
 ) -> ((M, Result<u32, PlayerFault>), (N, Result<u32, PlayerFault>))
     requires one_sound { M.Memory.sound one }
     requires other_sound { N.Memory.sound other }
-    ensures one { Performed (opened (loaded_words (M.Memory.words one) image.now)) (script_in (M.Memory.words one) image.now text.now turns.old snooped.old) turns.old turns.new snooped.old snooped.new result.0.1 (M.Memory.words result.0.0) }
-    ensures other { Performed (opened (loaded_words (N.Memory.words other) image.now)) (script_in (N.Memory.words other) image.now text.now again.old buffered.old) again.old again.new buffered.old buffered.new result.1.1 (N.Memory.words result.1.0) }
-    ensures alike { M.Memory.words one ≡ N.Memory.words other → free turns.old ≡ free again.old → free snooped.old ≡ free buffered.old → content snooped.old ≡ content buffered.old → (result.0.1 ≡ result.1.1) × (content snooped.new ≡ content buffered.new) × (M.Memory.words result.0.0 ≡ N.Memory.words result.1.0) }
+    ensures one { PlayedOver (M.Memory.words one) input.entry snooped.old snooped.new result.0.1 (M.Memory.words result.0.0) }
+    ensures other { PlayedOver (N.Memory.words other) input.entry buffered.old buffered.new result.1.1 (N.Memory.words result.1.0) }
+    ensures alike { M.Memory.words one ≡ N.Memory.words other → free snooped.old.turns ≡ free buffered.old.turns → free snooped.old.answers ≡ free buffered.old.answers → content snooped.old.answers ≡ content buffered.old.answers → (result.0.1 ≡ result.1.1) × (content snooped.new.answers ≡ content buffered.new.answers) × (M.Memory.words result.0.0 ≡ N.Memory.words result.1.0) }
     ensures beside { (M.Memory.spare result.0.0 ≡ M.Memory.spare one) × (N.Memory.spare result.1.0 ≡ N.Memory.spare other) }
     ensures kept { M.Memory.sound result.0.0 × N.Memory.sound result.1.0 }
 {
-    let snooping = play_on::<SnoopingStore<M>>(one, image, text, turns, snooped);
-    let central = play_on::<CentralBuffer<N>>(other, image, text, again, buffered);
+    let snooping = play_on::<SnoopingStore<M>>(one, input, snooped);
+    let central = play_on::<CentralBuffer<N>>(other, input, buffered);
     (snooping, central)
 }
 
-// Reads the turns of a text into a list, plays them, and adds each answer to another list. A text with a fault is not
-// played. Where there is no place for an answer, its turn and all after it are not played. It gives the number of
+// Reads the turns of a text into the list for turns, plays them, and adds each answer to the other list. A text with a fault
+// is not played. Where there is no place for an answer, its turn and all after it are not played. It gives the number of
 // active tasks.
 pub fn play_text<S: VersionStore>(
     store: &mut S,
     text: &[u8],
-    turns: &mut RowList<Turn>,
-    answers: &mut RowList<Answer>,
+    lists: &mut Lists,
 ) -> Result<u32, PlayerFault>
     requires { S.VersionStore.sound store.old }
-    ensures answer { result ≡ told (text_script (free turns.old) (free answers.old) text.now).answer (active_tasks (S.VersionStore.plain store.new)) }
-    ensures turns { Gained turns.old (text_script (free turns.old) (free answers.old) text.now).read turns.new }
-    ensures answers { Gained answers.old (answers_of (S.VersionStore.plain store.old) (text_script (free turns.old) (free answers.old) text.now).played) answers.new }
-    ensures after { S.VersionStore.plain store.new ≡ state_after_all (S.VersionStore.plain store.old) (text_script (free turns.old) (free answers.old) text.now).played }
-    ensures sequential { ReadsOn (S.VersionStore.plain store.old) (paired (text_script (free turns.old) (free answers.old) text.now).played (drop (length (content answers.old)) (content answers.new))) (S.VersionStore.plain store.new) }
+    ensures answer { result ≡ told (script_of lists.old text.now).answer (active_tasks (S.VersionStore.plain store.new)) }
+    ensures turns { Gained lists.old.turns (script_of lists.old text.now).read lists.new.turns }
+    ensures answers { Gained lists.old.answers (answers_of (S.VersionStore.plain store.old) (script_of lists.old text.now).played) lists.new.answers }
+    ensures after { S.VersionStore.plain store.new ≡ state_after_all (S.VersionStore.plain store.old) (script_of lists.old text.now).played }
+    ensures sequential { ReadsOn (S.VersionStore.plain store.old) (paired (script_of lists.old text.now).played (drop (length (content lists.old.answers)) (content lists.new.answers))) (S.VersionStore.plain store.new) }
     ensures beside { S.VersionStore.spare store.new ≡ S.VersionStore.spare store.old }
     ensures kept { S.VersionStore.sound store.new }
 {
-    let before = turns.len();
-    read_turns(text, turns)?;
-    play_each(store, &turns.items()[before..], answers)
+    let before = lists.turns.len();
+    read_turns(text, &mut lists.turns)?;
+    play_each(store, &lists.turns.items()[before..], &mut lists.answers)
 }
 
 // Plays turns one by one and adds each answer to a list, until there is no turn or no place left. It gives the number of
-// active tasks.
+// active tasks. (By `play_turns`, which writes into a slice, the list would have to lend its free places and be told
+// afterwards how many of them were written.)
 fn play_each<S: VersionStore>(
     store: &mut S,
     turns: &[Turn],

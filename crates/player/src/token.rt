@@ -50,7 +50,7 @@ impl<'a> Tokens<'a> {
     }
 
     // Takes the token after a verb or a number, or gives none at the end of the text.
-    pub fn next(&mut self) -> Option<Placed<'a>>
+    pub fn next_token(&mut self) -> Option<Placed<'a>>
         ensures token { words_seen result ≡ next_token (place_of self.old) (text_left self.old) }
         ensures text { text_left self.new ≡ after_next (text_left self.old) }
         ensures place { end_of self.new ≡ end_of self.old }

@@ -1,9 +1,10 @@
 // Writing turns as text, one line for each.
-ghost use Rattle.std.specs.Prelude.{◌≡◌, ℕ, ◌≤◌, length, IfOk, string_bytes};
+ghost use Rattle.std.specs.Prelude.{◌≡◌, ℕ, ◌≤◌, ◌++◌, length, IfOk, string_bytes};
 ghost use Rattle.player.specs.Text.{text_read, whole_read};
 ghost use Rattle.player.specs.Writing.{line_of, text_of, Small};
 
 use std::alloc::{AllocError, Global};
+use std::fmt::Write;
 use stores::Turn;
 
 // The text of turns, which reading gives back where there is room for them.
@@ -13,10 +14,7 @@ pub fn write_turns(heap: Global, turns: &[Turn]) -> Result<String, AllocError>
 {
     let mut text = String::new(heap);
     for turn in turns {
-        // A line of its own for each turn: passed by value, it brings along that its fields are numbers of 32 bits, which
-        // reading back needs.
-        let line = write_turn(heap, *turn)?;
-        text.push_str(line.as_str())?;
+        write_line(&mut text, *turn)?;
     }
     Ok(text)
 }
@@ -26,5 +24,16 @@ pub fn write_turn(heap: Global, turn: Turn) -> Result<String, AllocError>
     ensures text { IfOk result (λ s. string_bytes s ≡ line_of turn) }
     ensures small { Small turn }
 {
-    format!(in heap; "{turn}\n")
+    let mut text = String::new(heap);
+    write_line(&mut text, turn)?;
+    Ok(text)
+}
+
+// Adds the line of a turn. Passed by value, the turn brings along that its fields are numbers of 32 bits, which reading back
+// needs.
+fn write_line(text: &mut String, turn: Turn) -> Result<(), AllocError>
+    ensures text { IfOk result (λ _. string_bytes text.new ≡ string_bytes text.old ++ line_of turn) }
+    ensures small { Small turn }
+{
+    writeln!(text, "{turn}")
 }

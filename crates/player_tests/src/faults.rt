@@ -34,3 +34,19 @@ fn every_fault_tells_layer_number_and_place(rt: HostRuntime) -> Result<(), Fail>
     assert_eq!(rt; full.layer(), Layer::List);
     expect(&rt, full, "fault list 16 2048")
 }
+
+#[test]
+fn a_fault_is_written_as_the_player_or_the_list_tells_it(rt: HostRuntime) -> Result<(), Fail> {
+    let image = ImageFault {
+        why: ImageWhy::Length,
+        place: 0,
+    };
+    let text = TextFault {
+        why: TextWhy::Verb,
+        place: 8,
+    };
+    let full = ListFault::Full;
+    let told = format!(in rt.alloc(); "{image}, {text}, {full}")?;
+    assert_eq!(rt; told.as_str(), "fault image 9 0, fault text 13 8, no 16");
+    Ok(())
+}

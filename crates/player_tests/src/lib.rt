@@ -16,3 +16,5 @@ mod plays;
 mod text_faults;
 #[cfg(test)]
 mod texts;
+#[cfg(test)]
+mod words;

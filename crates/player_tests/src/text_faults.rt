@@ -4,7 +4,7 @@ use std::process::Abort;
 use std::test::*;
 use stores::Turn;
 
-// Reads the text into a list that takes three turns.
+// Reads the text into a list that takes three turns. The fault is given by its number, as users know it.
 fn refused(
     rt: &impl Abort,
     text: &str,

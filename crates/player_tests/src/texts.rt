@@ -1,5 +1,5 @@
 // Texts that are read whole, and written again.
-use player::{RowList, read_turns, write_turns};
+use player::{RowList, read_turns, write_turn, write_turns};
 use std::test::*;
 use stores::Turn;
 
@@ -46,6 +46,8 @@ fn the_fields_are_in_their_places(rt: HostRuntime) -> Result<(), Fail> {
         w: 333,
     };
     assert_eq!(rt; list.get(0), Some(store));
+    let line = write_turn(rt.alloc(), store)?;
+    assert_eq!(rt; line.as_str(), "store 1 22 333\n");
     Ok(())
 }
 

@@ -1,9 +1,7 @@
-use Rattle.std.proofs.Common.{◌≡◌, ℕ, List, get_or, sym, ap, ◌∙◌, subst, arith}
-use Rattle.player.specs.Image.{pairs_of, image_words, loaded_words, HoldsPairs}
+use Rattle.std.proofs.Common.{arith}
 use Rattle.player.proofs.Numbers.{pairs-of-front, words-after-pairs}
 use Rattle.player.proofs.Checking.{has-count, accepted}
 use Rattle.player.proofs.Laying.{image-laid}
-use Rattle.player.proofs.ReadingBack.{loaded-holds, loaded-outside}
 use Rattle.player.proofs.image.lay_image.Goals as goal
 
 pub unreachable-requires : goal.unreachable-requires
@@ -22,17 +20,11 @@ lay_pairs-requires g c =
 pub returns : goal.returns
 returns g c =
     let image = accepted _ _ _ _ _ c.in-Some.ensures.0 c.in-Some.ensures.1 c.requires.accepted in
-    let ws = g.M.Memory.words c.args.memory.now in
-    let bytes = c.args.image.now in
     let rest = c.in-Some.rest.now in
     let e = c.split_at.ensures in
     let laid = rw (e.front, e.back, pairs-of-front c.in-Some.count rest image.pairs, words-after-pairs c.in-Some.count rest image.pairs) at c.lay_pairs.ensures.after in
-    let after : g.M.Memory.words c.lay_pairs.new.memory ≡ loaded_words ws bytes =
-    image-laid _ _ _ _ _ c.in-Some.ensures.0 c.requires.accepted laid in
     record {
-      after = after;
-      laid = subst (HoldsPairs (pairs_of bytes) (image_words bytes)) (sym after) (loaded-holds ws bytes c.requires.accepted);
-      outside = λ a h. ap (λ (xs : List ℕ). get_or xs a 0) after ∙ loaded-outside ws bytes c.requires.accepted a h;
+      after = image-laid _ _ _ _ _ c.in-Some.ensures.0 c.requires.accepted laid;
       beside = c.lay_pairs.ensures.beside;
       kept = c.lay_pairs.ensures.kept;
     }

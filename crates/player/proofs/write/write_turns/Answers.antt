@@ -1,4 +1,4 @@
-use Rattle.std.proofs.Common.{◌≡◌, take, string_bytes, ap, ◌∙◌, subst, arith}
+use Rattle.std.proofs.Common.{◌≡◌, take, string_bytes, refl, ap, ◌∙◌, subst, arith}
 use Rattle.std.specs.List.{AllByRecursion}
 use Rattle.std.proofs.ByRecursion.{All-more}
 use Rattle.std.proofs.lemmas.List.{take_all}
@@ -12,10 +12,8 @@ pub loop-turn-preserved : goal.loop-turn-preserved
 loop-turn-preserved c =
     let ts = c.args.turns.now in
     let i = c.loop-turn.turn-index in (
-      c.in_ok-push_str.ensures.bytes
-          ∙ text-more ts i (Start 0) (string_bytes c.loop-turn.text) c.as_str.result.now (omega arith) c.loop-turn.invariant.0
-          (c.as_str.ensures.value ∙ c.in_ok-line.ensures.text),
-      All-more Small ts i (Start 0) (omega arith) c.loop-turn.invariant.1 c.write_turn.ensures.small,
+      c.in_ok-write_line.ensures.text ∙ text-more ts i (Start 0) (string_bytes c.loop-turn.text) _ (omega arith) c.loop-turn.invariant.0 refl,
+      All-more Small ts i (Start 0) (omega arith) c.loop-turn.invariant.1 c.write_line.ensures.small,
     )
 
 pub returns : goal.returns

@@ -1,5 +1,5 @@
 use Rattle.std.proofs.Common.{◌≡◌, take}
-use Rattle.played.proofs.words_of.Given as goal
+use Rattle.player.proofs.output.words_of.Given as goal
 
 -- the words before a are read, and all stay
 abbrev pub invariant-loop-a : goal.invariant-loop-a
@@ -7,5 +7,6 @@ invariant-loop-a g l =
     let m = g.M.Memory in record {
       kept : m.sound l.memory;
       same : m.words l.memory ≡ m.words l.initial.memory;
+      beside : m.spare l.memory ≡ m.spare l.initial.memory;
       read : l.words.items ≡ take l.a (m.words l.initial.memory);
     }
