@@ -19,7 +19,7 @@ pub trait Machine: VersionStore {
     // And as the store is opened.
     ghost first_report: { Option BusReport };
 
-    // The memory's word at a, of which the bus does not report.
+    // The memory's word at a. What the bus reports stays, of which `word` of every version store says nothing.
     fn memory_word(&mut self, a: u32) -> Result<u32, Refusal>
         requires { Self.sound self.old }
         ensures answer { result ≡ word_of (Self.plain self.old) a }

@@ -50,9 +50,10 @@ fn carry_out_all<S: Machine>(store: &mut S, commands: &[Command], replies: &mut 
     }
 }
 
-// The commands on a store over a copy of the words, which are then as the store leaves its memory. A library for C allocates
-// nothing: the copy lies in a row of fixed length, which the caller lends. That word memory means the same below this store as
-// elsewhere is asked, since a bound does not say it.
+// The commands on a store over a copy of the words, which are then as the store leaves its memory. (Over the words themselves a
+// contract could not say what they are after the call, as they would be lent for as long as the store's type names.) A library
+// for C allocates nothing: the copy lies in a row of fixed length, which the caller lends. The three other rows stand side by
+// side as C hands them in. That word memory means the same below this store as elsewhere is asked, since a bound does not say it.
 fn run<'a, S: Machine<Below = WordMemory<'a>>>(
     row: &'a mut [u32; MOST_WORDS],
     words: &mut [u32],

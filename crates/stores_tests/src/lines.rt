@@ -1,7 +1,8 @@
 // Every valid line of the snooping store and its bus report, after every turn, by hand. The central buffer is held to the
 // same answers, and both stores to the same words of the memory. All runs begin with 64 zero words.
-ghost use Rattle.std.specs.Prelude.{length};
+ghost use Rattle.std.specs.Prelude.{◌≡◌, length};
 ghost use Rattle.memory.specs.Words.{MemorySize};
+ghost use Rattle.snooping.specs.declared.report.BusReport.{BusReport};
 
 use crate::turns::{commit, load, replace, squash, start, store};
 use memory::{Memory, WordMemory};
@@ -121,14 +122,20 @@ trait Watched: VersionStore {
     // What the message of a failure calls it.
     const NAME: &'static str;
 
+    // Whether this is what its bus reports, if it has a bus.
+    ghost reports: { Self → BusReport → Type 0 };
+
     // Holds what the store shows of its lines and its bus to what is expected.
     fn compare(&self, rt: &impl Abort, report: BusReport, lines: &[Row])
-        requires { Self.sound self.now };
+        requires { Self.sound self.now }
+        ensures { reports self.now report };
 }
 
 // All 64 lines are held to the rows, and every row to its line.
 impl<M: Memory> Watched for SnoopingStore<M> {
     const NAME: &'static str = "snooping store";
+
+    ghost reports = { λ s r. s.report ≡ r };
 
     fn compare(&self, rt: &impl Abort, report: BusReport, lines: &[Row]) {
         assert_eq!(rt; self.report(), report);
@@ -146,6 +153,8 @@ impl<M: Memory> Watched for SnoopingStore<M> {
 // It shows neither lines nor a bus.
 impl<M: Memory> Watched for CentralBuffer<M> {
     const NAME: &'static str = "central buffer";
+
+    ghost reports = { λ _ _. Unit {0} };
 
     fn compare(&self, _rt: &impl Abort, _report: BusReport, _lines: &[Row]) {}
 }
