@@ -45,8 +45,8 @@ pub struct SecondLevel<M> {
     lines: [Line; LINES],
 }
 
-// What ties the cache to the memory below is said at each method, as in `Memory`: that memory's own condition is no part of
-// its type, so the cache's can be no part of `SecondLevel`.
+// `SoundCache` is a clause of each method and no fact of the type, since it is the cache's `sound`, which `Memory` asks and
+// keeps at each call.
 impl<M: Memory> SecondLevel<M> {
     // A cache over a memory that is open. Its lines are empty, so its words are those below.
     pub fn open(below: M) -> SecondLevel<M>
