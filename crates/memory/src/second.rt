@@ -45,6 +45,8 @@ pub struct SecondLevel<M> {
     lines: [Line; LINES],
 }
 
+// `SoundCache` is a clause of each method and no fact of the type, since it is the cache's `sound`, which `Memory` asks and
+// keeps at each call.
 impl<M: Memory> SecondLevel<M> {
     // A cache over a memory that is open. Its lines are empty, so its words are those below.
     pub fn open(below: M) -> SecondLevel<M>
