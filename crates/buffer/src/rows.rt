@@ -1,4 +1,4 @@
-// The rows of the central buffer: 16 sets of four. Address a lives in set a mod 16. Four rows are enough for a set,
+// The rows of the central buffer: 16 sets of four. Address a has set a mod 16. Four rows are enough for a set,
 // since each of four tasks holds at most one address of a class.
 ghost use Rattle.std.specs.Prelude.{◌≡◌, ℕ, ◌%◌, ◌<◌, true, ◌&&◌, map, length, get_or, ◌==◌, slice_index_or, slice_set};
 ghost use Rattle.std.specs.List.{position};
@@ -119,7 +119,8 @@ impl Set {
             .unwrap()
     }
 
-    // The place of the row that p holds.
+    // The place of the row that p holds. It takes p's index and not `held_by`, as the index says that p is below 4, which
+    // `row_for` needs.
     fn held_place(&self, p: Processor) -> Option<usize>
         ensures place { result ≡ position (λ r. is_held (in_row r p)) self.now }
         ensures bound { p < 4 }

@@ -12,7 +12,7 @@ use Rattle.versions.specs.declared.version.Version.{Version}
 use Rattle.versions.specs.Cuts.{up_to, past}
 use Rattle.versions.specs.Orders.{place_in, Apart}
 use Rattle.versions.specs.Plain.{Task, Plain, fresh, is_on, task_on, column}
-use Rattle.versions.specs.Processors.{processor_answer, class_answer}
+use Rattle.versions.specs.Processors.{processor_answer}
 use Rattle.versions.specs.Tables.{Table, task_by, plain_of, Fitting}
 use Rattle.versions.specs.Versions.{no_version, is_held, is_own, laid_over, seen_by}
 use Rattle.snooping.specs.declared.cache.Cache.{Cache}
@@ -266,10 +266,10 @@ line-at s q c h l =
     ∙ get_or-map-range_with_len (line_of s q) 0 16 c c blank l (omega arith)
 
 -- a line that a user asks for, by any two numbers
-pub line-asked : (s : Plain) (p c q d : ℕ) (x : Line) → Some q ≡ result_ok (processor_answer p) → Some d ≡ result_ok (class_answer c) → (q < 4 → d < 16 → x ≡ line_of s q d) → Some x ≡ line_answer s p c
+pub line-asked : (s : Plain) (p c q d : ℕ) (x : Line) → Some q ≡ result_ok (processor_answer p) → Some d ≡ cond (leb 16 c) None (Some c) → (q < 4 → d < 16 → x ≡ line_of s q d) → Some x ≡ line_answer s p c
 line-asked s p c q d x at_p at-c is = go (leb 4 p) (leb 16 c) refl refl at_p at-c
   where
-    go : (t u : Bool) → leb 4 p ≡ t → leb 16 c ≡ u → Some q ≡ result_ok {E = Refusal} (cond t (Err NoProcessor) (Ok p)) → Some d ≡ result_ok {E = Unit {0}} (cond u (Err tt) (Ok c)) → Some x ≡ line_answer s p c
+    go : (t u : Bool) → leb 4 p ≡ t → leb 16 c ≡ u → Some q ≡ result_ok {E = Refusal} (cond t (Err NoProcessor) (Ok p)) → Some d ≡ cond u None (Some c) → Some x ≡ line_answer s p c
     go true u f g y z = absurd (none-some q y)
     go false true f g y z = absurd (none-some d z)
     go false false f g y z =

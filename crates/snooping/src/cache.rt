@@ -1,6 +1,6 @@
 // One processor's cache: a line for each class of addresses.
 ghost use Rattle.std.specs.Prelude.{◌≡◌, ◌%◌, map, replicate, slice_index_or, slice_set};
-ghost use Rattle.snooping.specs.Lines.{blank, version_at, with_loaded, with_stored, with_next, ended, unlinked};
+ghost use Rattle.snooping.specs.Lines.{blank, version_at, with_taken, with_next, ended, unlinked};
 
 use crate::line::Line;
 use crate::state::LineEvent;
@@ -36,20 +36,12 @@ impl Cache {
         self.line(Class::of(a)).version(a)
     }
 
-    // Takes the word w of a load of a.
-    pub fn load(&mut self, a: u32, w: u32)
-        ensures { self.new.lines ≡ slice_set self.old.lines (a % 16) (with_loaded (slice_index_or self.old.lines (a % 16) blank) a w) }
+    // Takes the word w of an access of a. (One line is lent inside the method, here and in those below.)
+    pub fn take(&mut self, event: LineEvent, a: u32, w: u32)
+        ensures { self.new.lines ≡ slice_set self.old.lines (a % 16) (with_taken event (slice_index_or self.old.lines (a % 16) blank) a w) }
     {
         let line = &mut self.lines[Class::of(a).index()];
-        line.load(a, w);
-    }
-
-    // Takes the word w of a store to a.
-    pub fn store(&mut self, a: u32, w: u32)
-        ensures { self.new.lines ≡ slice_set self.old.lines (a % 16) (with_stored (slice_index_or self.old.lines (a % 16) blank) a w) }
-    {
-        let line = &mut self.lines[Class::of(a).index()];
-        line.store(a, w);
+        line.take(event, a, w);
     }
 
     // Points the line of a to another processor's line, or to none.

@@ -22,7 +22,7 @@ impl Caches {
     ghost use Rattle.snooping.specs.Caches.{lines_in, table_of, processors_of};
     ghost use Rattle.snooping.specs.Grid.{with_line, with_cache, relinked, cut_to};
     ghost use Rattle.versions.specs.Tables.{last_that};
-    ghost use Rattle.snooping.specs.Lines.{blank, with_loaded, with_stored, ended};
+    ghost use Rattle.snooping.specs.Lines.{blank, with_taken, ended};
     ghost use Rattle.snooping.specs.Report.{reached, powers};
 
     // No task is active, and all lines are invalid.
@@ -43,29 +43,20 @@ impl Caches {
         self.list[p.index()].line(c)
     }
 
-    // p's line takes the word w of a load of a, and a's lines are linked anew.
-    pub fn fill(&mut self, p: Processor, a: u32, w: u32)
-        ensures lines { lines_in self.new ≡ relinked (processors_of self.old) a (with_line (lines_in self.old) p (a % 16) (with_loaded (lines_in self.old p (a % 16)) a w)) }
+    // p's line takes the word w of an access of a.
+    pub fn take(&mut self, p: Processor, event: LineEvent, a: u32, w: u32)
+        ensures lines { lines_in self.new ≡ with_line (lines_in self.old) p (a % 16) (with_taken event (lines_in self.old p (a % 16)) a w) }
         ensures order { self.new.order ≡ self.old.order }
     {
-        self.list[p.index()].load(a, w);
-        self.relink(a);
+        self.list[p.index()].take(event, a, w);
     }
 
-    // p's line takes the word w of a store to a.
-    pub fn store_line(&mut self, p: Processor, a: u32, w: u32)
-        ensures lines { lines_in self.new ≡ with_line (lines_in self.old) p (a % 16) (with_stored (lines_in self.old p (a % 16)) a w) }
+    // The same, and a's lines are linked anew.
+    pub fn take_and_relink(&mut self, p: Processor, event: LineEvent, a: u32, w: u32)
+        ensures lines { lines_in self.new ≡ relinked (processors_of self.old) a (with_line (lines_in self.old) p (a % 16) (with_taken event (lines_in self.old p (a % 16)) a w)) }
         ensures order { self.new.order ≡ self.old.order }
     {
-        self.list[p.index()].store(a, w);
-    }
-
-    // p's line takes the word w of a store to a, and a's lines are linked anew.
-    pub fn write(&mut self, p: Processor, a: u32, w: u32)
-        ensures lines { lines_in self.new ≡ relinked (processors_of self.old) a (with_line (lines_in self.old) p (a % 16) (with_stored (lines_in self.old p (a % 16)) a w)) }
-        ensures order { self.new.order ≡ self.old.order }
-    {
-        self.store_line(p, a, w);
+        self.take(p, event, a, w);
         self.relink(a);
     }
 

@@ -1,14 +1,14 @@
 // One line of a processor's cache.
 ghost use Rattle.std.specs.Prelude.{◌≡◌, ℕ, not, ◌&&◌, is_some};
 ghost use Rattle.versions.specs.Versions.{is_own};
-ghost use Rattle.snooping.specs.Lines.{blank, version_at, with_loaded, with_stored, with_next, ended, unlinked};
+ghost use Rattle.snooping.specs.Lines.{blank, version_at, with_taken, with_next, ended, unlinked};
 
 use crate::state::{LineEvent, LineState};
 use versions::{Order, Version};
 
-// State, tag, word and pointer stand side by side, as hardware keeps them. The tag is the whole address. The pointer names
+// State, tag, word and pointer stand side by side: they are compared with the circuit's, also of an invalid line. The tag is the whole address. The pointer names
 // the processor whose line is next in the address's version ordering list. An invalid line has no tag, word or pointer:
-// zeros and none.
+// zeros and none. The pointer is a number, as users read it: `Processor` is not theirs.
 #[derive(Clone, Copy, PartialEq, Debug)]
 pub struct Line {
     pub state: LineState,
@@ -50,20 +50,11 @@ impl Line {
         self.version(a).own.is_some() && self.next.is_none()
     }
 
-    // Takes the word w of a load of a.
-    pub(crate) fn load(&mut self, a: u32, w: u32)
-        ensures { self.new ≡ with_loaded self.old a w }
+    // Takes the word w of an access of a: what a load gave, or what is stored.
+    pub(crate) fn take(&mut self, event: LineEvent, a: u32, w: u32)
+        ensures { self.new ≡ with_taken event self.old a w }
     {
-        self.state.step(LineEvent::Load);
-        self.tag = a;
-        self.word = w;
-    }
-
-    // Takes the word w of a store to a.
-    pub(crate) fn store(&mut self, a: u32, w: u32)
-        ensures { self.new ≡ with_stored self.old a w }
-    {
-        self.state.step(LineEvent::Store);
+        self.state.step(event);
         self.tag = a;
         self.word = w;
     }

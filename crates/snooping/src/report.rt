@@ -25,7 +25,8 @@ impl BusKind {
     }
 }
 
-// Who gives the word of a bus read.
+// Who gives the word of a bus read. For none there is a case, and no `Option`, since it has one of the numbers that users know; the
+// processor is a number, as they read it.
 #[derive(Clone, Copy, PartialEq, Debug)]
 pub enum Supplier {
     // The cache of a processor.

@@ -11,6 +11,7 @@ ghost use Rattle.snooping.specs.Snooping.{plain_in, SoundSnooping, Shown, line_a
 use crate::caches::Caches;
 use crate::line::Line;
 use crate::report::{BusReport, Supplier};
+use crate::state::LineEvent;
 use memory::Memory;
 use versions::{Answer, Class, Processor, Refusal, TaskTable, VersionStore, write_back, write_own};
 
@@ -27,7 +28,7 @@ impl<M: Memory> SnoopingStore<M> {
         ensures { result ≡ line_answer (plain_in M.Memory.words self.now) p c }
     {
         let p = Processor::try_from(p).ok()?;
-        let c = Class::try_from(c).ok()?;
+        let c = Class::with(c)?;
         Some(self.caches.line(p, c))
     }
 
@@ -80,7 +81,7 @@ impl<M: Memory> VersionStore for SnoopingStore<M> {
             return Ok(line.word);
         }
         let (w, supplier) = supplied(&mut self.memory, &self.caches, k, a)?;
-        self.caches.fill(p, a, w);
+        self.caches.take_and_relink(p, LineEvent::Load, a, w);
         self.report = BusReport::bus_read(a, supplier);
         Ok(w)
     }
@@ -89,7 +90,7 @@ impl<M: Memory> VersionStore for SnoopingStore<M> {
         let (p, k) = self.caches.access(self.memory.size(), p, a)?;
         let line = self.caches.line(p, Class::of(a));
         if line.takes_store(a) {
-            self.caches.store_line(p, a, w);
+            self.caches.take(p, LineEvent::Store, a, w);
             self.report = BusReport::quiet();
             return Ok(0);
         }
@@ -97,7 +98,7 @@ impl<M: Memory> VersionStore for SnoopingStore<M> {
         let mask = self.caches.invalidated(k + 1, a);
         let hit = self.caches.squashed(k + 1, a);
         self.caches.cut_last(hit);
-        self.caches.write(p, a, w);
+        self.caches.take_and_relink(p, LineEvent::Store, a, w);
         self.report = BusReport::bus_write(a, mask);
         Ok(hit as u32)
     }

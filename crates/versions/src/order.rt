@@ -74,7 +74,7 @@ impl Order {
         requires { place_in self.old p ≡ None }
         ensures { self.new ≡ self.old ++ p ∷ [] }
     {
-        // Asked for its bound, which the list needs.
+        // Its contract gives p < 4, which the order's invariant needs.
         let _ = p.number();
         self.list.push(p);
     }

@@ -9,8 +9,9 @@ use crate::refusal::Answer;
 use crate::store::VersionStore;
 use crate::turn::Turn;
 
-// There was no place for the answer to the turn `at`, counted from 0, and it was not played.
-#[derive(Clone, Copy)]
+// There was no place for the answer to the turn `at`, counted from 0, and it was not played. Nothing prints it: the player tells
+// it as its own fault.
+#[derive(Clone, Copy, PartialEq, Debug)]
 pub struct AnswersFull {
     pub at: usize,
 }

@@ -1,6 +1,7 @@
-// Processors and classes of addresses: small numbers that were checked once, where they came in.
-ghost use Rattle.std.specs.Prelude.{◌≡◌, ◌%◌, ◌<◌};
-ghost use Rattle.versions.specs.Processors.{processor_answer, class_answer};
+// Processors and classes of addresses: small numbers that were checked once, where they came in. Two types and not one with its limit
+// as a parameter: a processor is checked and told by its number, a class is a remainder.
+ghost use Rattle.std.specs.Prelude.{◌≡◌, ◌%◌, ◌<◌, cond, Some, None, nat_le};
+ghost use Rattle.versions.specs.Processors.{processor_answer};
 
 use crate::refusal::Refusal;
 use std::marker::Model;
@@ -81,25 +82,21 @@ impl Class {
         Class { remainder: a % 16 }
     }
 
+    // The class with this remainder, if there is one: there is no refusal to tell.
+    pub fn with(remainder: u32) -> Option<Class>
+        ensures { result ≡ cond (nat_le 16 remainder) None (Some remainder) }
+    {
+        if remainder >= 16 {
+            return None;
+        }
+        Some(Class { remainder })
+    }
+
     // Its place in a row of sixteen.
     pub fn index(self) -> usize
         ensures value { result ≡ self }
         ensures bound { result < 16 }
     {
         self.remainder as usize
-    }
-}
-
-// A number of 16 or more is no class's. That is all there is to say of it.
-impl TryFrom<u32> for Class {
-    type Error = ();
-
-    ghost try_from_gives = { λ c r. r ≡ class_answer c };
-
-    fn try_from(c: u32) -> Result<Class, ()> {
-        if c >= 16 {
-            return Err(());
-        }
-        Ok(Class { remainder: c })
     }
 }

@@ -51,14 +51,14 @@ pub trait TaskTable {
     // How many of the tasks from place k on a store to a squashes: the oldest with a mark that no own word of a task
     // between hides, and all after it.
     fn squashed(&self, k: usize, a: u32) -> usize
+        requires { k ≤ length (processors self.now) }
         ensures { result ≡ squashed_by (map (λ q. table self.now q a) (drop k (processors self.now))) }
     {
-        let n = self.order().len();
-        // By place, since the answer counts from there. (Over `enumerate().skip(k)` the loop's invariant has no place to name.)
-        for i in k..n {
-            let version = self.version(self.order().at(i), a);
+        let later = &self.order().processors()[k..];
+        for (i, p) in later.iter().enumerate() {
+            let version = self.version(*p, a);
             if version.mark {
-                return n - i;
+                return later.len() - i;
             }
             if version.own.is_some() {
                 return 0;
@@ -66,6 +66,9 @@ pub trait TaskTable {
         }
         0
     }
+
+    // Each of the calls below gives the processor p and a place in the order, or the refusal: all the same pair, whether its caller
+    // needs the place or not.
 
     // The processor p, and the place that a new task on it takes, unless it has one already.
     fn startable(&self, p: u32) -> Result<(Processor, usize), Refusal>

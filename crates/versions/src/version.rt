@@ -11,7 +11,7 @@ pub struct Version {
 }
 
 impl Version {
-    // Neither mark nor own word.
+    // Neither mark nor own word. By this name, which says what a task has that holds nothing; a default would not.
     pub fn none() -> Version
         ensures { result ≡ no_version }
     {

@@ -1,4 +1,5 @@
-// Writing own words of a task to memory.
+// Writing own words of a task to memory. `Fitting` is asked of a table and a size, and is no fact of a table, which does not know
+// its memory.
 ghost use Rattle.std.specs.Prelude.{◌≡◌, ℕ, ◌+◌, ◌^◌, ◌<◌, ◌≤◌, List, length, is_some, if◌then◌else◌, Some, None};
 ghost use Rattle.memory.specs.Client.{count_below};
 ghost use Rattle.versions.specs.Plain.{laid_over_all, written_to};
@@ -10,7 +11,7 @@ use crate::tasks::TaskTable;
 use memory::Memory;
 
 // What a commit or a replacement wrote.
-#[derive(Clone, Copy, PartialEq, Debug)]
+#[derive(Clone, Copy, PartialEq, Debug, Default)]
 pub struct WrittenBack {
     // How many own words.
     pub words: u32,
@@ -19,17 +20,6 @@ pub struct WrittenBack {
 }
 
 impl WrittenBack {
-    // Nothing yet.
-    fn nothing() -> WrittenBack
-        ensures words { result.words ≡ 0 }
-        ensures last { result.last ≡ None }
-    {
-        WrittenBack {
-            words: 0,
-            last: None,
-        }
-    }
-
     // And then this.
     fn and(self, later: WrittenBack) -> WrittenBack
         requires { self.words + later.words < 2 ^ 32 }
@@ -62,7 +52,7 @@ pub fn write_own<M: Memory>(memory: &mut M, a: u32, own: Option<u32>) -> Written
                 last: Some(a),
             }
         }
-        None => WrittenBack::nothing(),
+        None => WrittenBack::default(),
     }
 }
 
@@ -76,7 +66,7 @@ pub fn write_back<M: Memory, T: TaskTable>(memory: &mut M, tasks: &T, p: Process
     ensures beside { M.Memory.spare memory.new ≡ M.Memory.spare memory.old }
     ensures kept { M.Memory.sound memory.new }
 {
-    let mut wrote = WrittenBack::nothing();
+    let mut wrote = WrittenBack::default();
     for c in 0..16 {
         wrote = wrote.and(write_class(memory, tasks, p, Class::of(c)));
     }
@@ -102,6 +92,6 @@ fn write_class<M: Memory, T: TaskTable>(
 {
     match tasks.held(p, c) {
         Some(a) => write_own(memory, a, tasks.version(p, a).own),
-        None => WrittenBack::nothing(),
+        None => WrittenBack::default(),
     }
 }

@@ -11,7 +11,7 @@ pub loop-c-init : goal.loop-c-init
 loop-c-init g c =
     let ws = g.M.Memory.words c.args.memory.now in
     let at = g.T.TaskTable.table c.args.tasks.now c.args.p in
-    (c.requires.sound, sym (words-none at ws), c.nothing-wrote.ensures.words ∙ sym (count_none at (length ws)), omega (arith, c.nothing-wrote.ensures.words), c.nothing-wrote.ensures.last, refl)
+    (c.requires.sound, sym (words-none at ws), c.default-wrote.ensures.0 ∙ sym (count_none at (length ws)), omega (arith, c.default-wrote.ensures.0), c.default-wrote.ensures.1, refl)
 
 pub write_class-requires-clause-fitting : goal.write_class-requires-clause-fitting
 write_class-requires-clause-fitting g c =

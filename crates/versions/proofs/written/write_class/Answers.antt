@@ -24,4 +24,4 @@ returns-in-Some-clause-address g c =
 pub returns-in-None-clause-address : goal.returns-in-None-clause-address
 returns-in-None-clause-address g c =
     let at = g.T.TaskTable.table c.args.tasks.now c.args.p in
-    c.nothing.ensures.last ∙ class-address at c.args.c _ (c.requires.fitting.one c.args.p) None c.in-None.ensures (c.requires.fitting.inside c.args.p)
+    c.default.ensures.1 ∙ class-address at c.args.c _ (c.requires.fitting.one c.args.p) None c.in-None.ensures (c.requires.fitting.inside c.args.p)

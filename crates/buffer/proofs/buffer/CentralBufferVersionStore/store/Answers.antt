@@ -28,6 +28,14 @@ overflow_add-k g c =
     let y = ok-access c.size.result ps (table_of b.tasks) c.in_ok-p.p c.args.a c.in_ok-p.k at.1 in
     omega (arith, (placed ps c.in_ok-p.p c.in_ok-p.k y.0).within, c.len-active.ensures.value ∙ ap length c.order.ensures)
 
+pub squashed-hit-requires : goal.squashed-hit-requires
+squashed-hit-requires g c =
+    let b = c.args.self.now in
+    let ps = b.tasks.order in
+    let at = at-processor c.args.p c.in_ok-p.p c.in_ok-p.k (λ (p : ℕ). access_place c.size.result ps (table_of b.tasks) p c.args.a) c.in_ok-p.ensures in
+    let y = ok-access c.size.result ps (table_of b.tasks) c.in_ok-p.p c.args.a c.in_ok-p.k at.1 in
+    omega (arith, (placed ps c.in_ok-p.p c.in_ok-p.k y.0).within)
+
 pub overflow_sub-active : goal.overflow_sub-active
 overflow_sub-active g c =
     let b = c.args.self.now in

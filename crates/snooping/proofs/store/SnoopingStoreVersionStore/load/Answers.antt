@@ -59,8 +59,8 @@ returns g c =
     let given : (w, c.in_ok-w.supplier) ≡ (supplied_word (lines_in s.caches) (a % 16) (get_or (m.words s.memory) a 0) nearest, supplied_by nearest) = same_pair _ _ c.in_ok-w.ensures.answer in
     took m.words m.sound m.spare s (λ (p : ℕ). Load p a) c.args.p c.in_ok-p.p (Ok w) _ at.0
     (turn-load-miss m.words s c.requires c.in_ok-p.p a c.in_ok-p.k w nearest
-    (m.words c.supplied.new.memory) (processors_of c.fill.new.self) c.fill.new.self.list c.bus_read-self.result
+    (m.words c.supplied.new.memory) (processors_of c.take_and_relink.new.self) c.take_and_relink.new.self.list c.bus_read-self.result
     (at.1 ∙ ap (λ (n : ℕ). access_place n (processors_of s.caches) (table_of s.caches) c.in_ok-p.p c.args.a) c.size.ensures)
-    (ap is_held (sym version) ∙ (sym c.is_held.ensures ∙ c.if-is_held.false)) refl (ap (λ (x : ℕ × Supplier). x.0) given) c.supplied.ensures.words c.fill.ensures.order
-    c.fill.ensures.lines c.fill.new.self.wide
+    (ap is_held (sym version) ∙ (sym c.is_held.ensures ∙ c.if-is_held.false)) refl (ap (λ (x : ℕ × Supplier). x.0) given) c.supplied.ensures.words c.take_and_relink.ensures.order
+    c.take_and_relink.ensures.lines c.take_and_relink.new.self.wide
     (c.bus_read-self.ensures ∙ ap (λ (x : ℕ × Supplier). bus_read a x.1) given)) c.supplied.ensures.kept c.supplied.ensures.beside

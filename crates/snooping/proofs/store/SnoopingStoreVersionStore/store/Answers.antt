@@ -35,9 +35,9 @@ returns-then-takes_store g c =
     let parts = hit-parts own next test in
     took m.words m.sound m.spare s (λ (p : ℕ). Store p c.args.a c.args.w) c.args.p c.in_ok-p.p (Ok 0) _ at.0
     (turn-store-hit m.words s c.requires c.in_ok-p.p c.args.a c.args.w c.in_ok-p.k
-    (processors_of c.store_line.new.self) c.store_line.new.self.list c.quiet-self.result
+    (processors_of c.take.new.self) c.take.new.self.list c.quiet-self.result
     (at.1 ∙ ap (λ (n : ℕ). access_place n (processors_of s.caches) (table_of s.caches) c.in_ok-p.p c.args.a) c.size.ensures)
-    parts.0 parts.1 c.store_line.ensures.order c.store_line.ensures.lines c.store_line.new.self.wide c.quiet-self.ensures) c.requires.memory refl
+    parts.0 parts.1 c.take.ensures.order c.take.ensures.lines c.take.new.self.wide c.quiet-self.ensures) c.requires.memory refl
 
 pub overflow_add-k : goal.overflow_add-k
 overflow_add-k g c =
@@ -80,8 +80,8 @@ returns g c =
     let mid = lines_in c.cut_last.new.self in
     took m.words m.sound m.spare s (λ (p : ℕ). Store p c.args.a c.args.w) c.args.p c.in_ok-p.p (Ok n) _ at.0
     (turn-store-miss m.words s c.requires c.in_ok-p.p c.args.a c.args.w k n
-    c.invalidated-mask.result mid (processors_of c.write.new.self) c.write.new.self.list c.bus_write-self.result
+    c.invalidated-mask.result mid (processors_of c.take_and_relink.new.self) c.take_and_relink.new.self.list c.bus_write-self.result
     (at.1 ∙ ap (λ (n : ℕ). access_place n (processors_of s.caches) (table_of s.caches) c.in_ok-p.p c.args.a) c.size.ensures)
-    test (hit-is table ps k c.args.a n c.squashed-hit.ensures) mask cut.0 cut.1 (c.write.ensures.order ∙ c.cut_last.ensures.order)
-    (c.write.ensures.lines ∙ ap (λ (l : List ℕ). relinked l c.args.a (with_line mid c.in_ok-p.p (c.args.a % 16) (with_stored (mid c.in_ok-p.p (c.args.a % 16)) c.args.a c.args.w))) c.cut_last.ensures.order)
-    c.write.new.self.wide c.bus_write-self.ensures) c.requires.memory refl
+    test (hit-is table ps k c.args.a n c.squashed-hit.ensures) mask cut.0 cut.1 (c.take_and_relink.ensures.order ∙ c.cut_last.ensures.order)
+    (c.take_and_relink.ensures.lines ∙ ap (λ (l : List ℕ). relinked l c.args.a (with_line mid c.in_ok-p.p (c.args.a % 16) (with_stored (mid c.in_ok-p.p (c.args.a % 16)) c.args.a c.args.w))) c.cut_last.ensures.order)
+    c.take_and_relink.new.self.wide c.bus_write-self.ensures) c.requires.memory refl
