@@ -10,7 +10,7 @@ use Rattle.player.specs.Fields.{field_of}
 use Rattle.player.specs.Left.{before, after, further, parts_left, FieldTaken, NoField, NoTurn, end_answer}
 use Rattle.player.specs.Lines.{fields_of, field_before, turn_of_fields}
 use Rattle.player.specs.Splits.{line_end, space, split, begun}
-use Rattle.player.specs.Tokens.{Word, word_seen, words_seen, number, end, PlacedWord, part_length, part, after_part, next_token, after_next}
+use Rattle.player.specs.Tokens.{Word, word_seen, number, end, PlacedWord, part_length, part, after_part, next_token, after_next}
 use Rattle.player.specs.Verbs.{field_count}
 
 pub split-first : (sep : ℕ) (s : List ℕ) → split sep s ≡ before sep s ∷ further sep (after sep s)
