@@ -1,7 +1,9 @@
 -- What follows a part of a line.
 use Rattle.std.proofs.Common.{◌≡◌, ℕ, suc, ◌+◌, ◌<◌, Bool, true, false, cond, ◌||◌, eqb, List, [], ◌∷◌, take, Some, None, Ok, Err, Option, Result, sym, refl, ap, ◌∙◌, subst, arith, MatchResult}
+use Rattle.std.specs.Option.{option_map}
 use Rattle.player.specs.declared.fault.TextWhy.{TextWhy}
 use Rattle.player.specs.declared.fault.TextWhy.TheVariants.{Field}
+use Rattle.player.specs.declared.token.Placed.{Placed}
 use Rattle.player.specs.declared.token.Token.{Token}
 use Rattle.player.specs.declared.token.Token.TheVariants.{Verb, Number, LineEnd}
 use Rattle.player.specs.declared.verb.Verb.{Verb as TurnVerb}
@@ -102,6 +104,11 @@ field-taken at at' s word left w r none is w-is left_is r-is = go r r-is
     go : (q : Result ℕ TextWhy) → q ≡ field_of word → MatchResult q (FieldTaken s left) (NoField s)
     go (Ok n) q-is = record { part = word; parts = taken.0; number = sym q-is; line = taken.1; between = taken.2 }
     go (Err e) q-is = record { refused = λ n. ap (fields_of (suc n)) taken.0 ∙ ap (λ (f : Result ℕ TextWhy). field_before f (fields_of n (parts_left left))) (sym q-is) }
+
+-- the token that was next, if its place is left out
+pub token-seen : (r : Option Placed) (t : Token) → option_map (λ (p : Placed). p.token) r ≡ Some t → (at : ℕ) × (words_seen r ≡ Some (record { word = word_seen t; at = at }))
+token-seen None t is = let z : ◌≡◌ {A = ℕ} 0 1 = cc in absurd (omega arith)
+token-seen (Some p) t is = let same : p.token ≡ t = cc in (p.at, ap (λ (u : Token). Some (record { word = word_seen u; at = p.at })) same)
 
 -- a part in place of a line end
 not-end-seen : (t : Token) → (t ≡ LineEnd → ⊥) → word_seen t ≡ end → ⊥

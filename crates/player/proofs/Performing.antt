@@ -1,8 +1,6 @@
 -- Scripts that are performed from an opening on.
 use Rattle.std.proofs.Common.{◌≡◌, ℕ, List, [], length, Err, Result, sym, refl, subst}
 use Rattle.std.proofs.lemmas.List.{append-nil}
-use Rattle.versions.specs.declared.refusal.Refusal.{Refusal}
-use Rattle.versions.specs.declared.turn.Turn.{Turn}
 use Rattle.versions.specs.Plain.{Plain, opened, memory_words}
 use Rattle.player.specs.declared.fault.PlayerFault.TheVariants.{Image}
 use Rattle.player.specs.declared.play.Input.{Input}

@@ -1,6 +1,5 @@
 -- What an image and a text give before a store is asked: the turns that are read, those that are played, and the fault.
 use Rattle.std.specs.Prelude.{◌≡◌, ℕ, cond, List, [], ◌++◌, length, take, drop, Ok, Err, Result, nat_lt}
-use Rattle.versions.specs.declared.refusal.Refusal.{Refusal}
 use Rattle.versions.specs.declared.turn.Turn.{Turn}
 use Rattle.versions.specs.Plain.{Plain, opened, memory_words, active_tasks, answers_of, state_after_all}
 use Rattle.versions.specs.Sequential.{ReadsOn, paired}

@@ -11,7 +11,7 @@ ghost use Rattle.player.specs.Tokens.{text_left, end_of, part_length, word_seen}
 use crate::fault::{TextFault, TextWhy};
 use crate::list::RowList;
 use crate::number::number;
-use crate::token::{Placed, Token, Tokens};
+use crate::token::{Token, Tokens};
 use crate::verb::Verb;
 use stores::Turn;
 
@@ -40,13 +40,7 @@ fn read_field(tokens: &mut Tokens) -> Result<u32, TextWhy>
     ensures field { MatchResult result (FieldTaken (text_left tokens.old) (text_left tokens.new)) (NoField (text_left tokens.old)) }
     ensures place { end_of tokens.new ≡ end_of tokens.old }
 {
-    let Some(
-        Placed {
-            token: Token::Number(part),
-            ..
-        },
-    ) = tokens.next_token()
-    else {
+    let Some(Token::Number(part)) = tokens.next_token().map(|placed| placed.token) else {
         return Err(TextWhy::Field);
     };
     number(part)
@@ -89,13 +83,7 @@ fn read_end(tokens: &mut Tokens) -> Result<(), TextWhy>
     ensures line { OnOk result (after line_end (text_left tokens.old) ≡ Some (text_left tokens.new)) }
     ensures place { end_of tokens.new ≡ end_of tokens.old }
 {
-    let Some(
-        Placed {
-            token: Token::LineEnd,
-            ..
-        },
-    ) = tokens.next_token()
-    else {
+    let Some(Token::LineEnd) = tokens.next_token().map(|placed| placed.token) else {
         return Err(TextWhy::Field);
     };
     Ok(())
