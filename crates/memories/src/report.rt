@@ -39,7 +39,7 @@ impl fmt::Display for Outcome {
     }
 }
 
-// Bytes as pairs of hexadecimal digits.
+// Bytes as pairs of hexadecimal digits. Only the program's output speaks of its text, and no contract.
 #[derive(Clone, Copy)]
 pub struct Hex<'a>(pub &'a [u8]);
 

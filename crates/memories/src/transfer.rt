@@ -1,4 +1,4 @@
-// The ways of the program's words, over any memories.
+// The ways of the program's words, over any memories: one cache over the source, or two over the target.
 ghost use Rattle.std.specs.Prelude.{◌≡◌, ℕ, ◌-◌, ◌^◌, ◌≤◌, [], ◌∷◌, length, Ok};
 ghost use Rattle.memory.specs.Client.{shared, copied};
 ghost use Rattle.memories.specs.Outside.{refused_at};

@@ -1,3 +1,3 @@
-mod Packing
+pub mod Packing
 mod Caching
 mod Copying

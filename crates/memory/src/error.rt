@@ -1,4 +1,5 @@
-// What a memory answers when it refuses.
+// What a memory answers when it refuses. Each error of this repository has its `number` and its text written out so: a trait for them
+// would be longer than they are, and no derive promises a text.
 ghost use Rattle.std.specs.Prelude.{◌≡◌, Some};
 ghost use Rattle.memory.specs.Refusals.{refusal_number, refusal_text};
 

@@ -5,6 +5,8 @@ use memory::{MOST_WORDS, WordMemory};
 use played::listing_of_files;
 use stores::SnoopingStore;
 
+// As the program `central` but for the store. What is left here names it: in `played` these lines would need clauses on word memory
+// below any store.
 fn main(rt: HostRuntime) -> anyhow::Result<()> {
     let mut words = vec![in rt.alloc(); 0u32; MOST_WORDS]?;
     let memory = WordMemory::open(words.as_mut_slice());

@@ -1,35 +1,27 @@
 -- The words of an image laid over those of a memory: word by word for a pair, and pair by pair.
-use Rattle.std.proofs.Common.{◌≡◌, ℕ, ◌+◌, ◌*◌, ◌<◌, ◌≤◌, List, ◌∷◌, length, get_or, drop, set, is_ok, Ok, sym, ap, ◌∙◌, subst, arith}
+use Rattle.std.proofs.Common.{◌≡◌, Some, take, slice_get, ℕ, ◌+◌, ◌*◌, ◌<◌, ◌≤◌, List, ◌∷◌, length, get_or, drop, set, is_ok, Ok, sym, ap, ◌∙◌, subst, arith}
 use lib.Seq.{paste}
 use Rattle.std.proofs.lemmas.List.Edits.{paste_more, length-paste}
-use Rattle.std.proofs.lemmas.List.{length-drop, drop_more}
+use Rattle.std.proofs.lemmas.List.{length-take-le, get_or-take}
+use Rattle.std.proofs.lemmas.Option.{slice_get-get_or}
 use Rattle.std.proofs.lemmas.Bool.{cond-true, lt-ltb}
 use Rattle.memory.specs.Bytes.{words_of}
 use Rattle.memory.specs.Words.{written_words}
 use Rattle.player.specs.declared.image.Pair.{Pair}
 use Rattle.player.specs.Image.{first_pairs, pairs_of, image_words, pair_end, Inside, laid_over, load_answer, loaded_words}
 
--- what a list that goes on with w and ms past k has at k
-pub next_of : (ns ms : List ℕ) (k w : ℕ) → drop k ns ≡ w ∷ ms → (k < length ns) × (get_or ns k 0 ≡ w) × (ms ≡ drop (k + 1) ns)
-next_of ns ms k w e =
-    let inside : k < length ns = omega (arith, sym (length-drop k ns) ∙ ap length e) in
-    let both : get_or ns k 0 ∷ drop (k + 1) ns ≡ w ∷ ms = sym (drop_more ns k 0 inside) ∙ e in
-    (inside, cc, cc)
-
--- one word more of a pair is put; us and xs are the memory's words before and after
-pub put_next : (ws us xs ns ls ms : List ℕ) (o l k w : ℕ) → k < l → o + l ≤ length ws → us ≡ paste ws o ns k → ls ≡ drop k ns → ls ≡ w ∷ ms
-    → xs ≡ written_words us (o + k) w → (xs ≡ paste ws o ns (k + 1)) × (ms ≡ drop (k + 1) ns)
-put_next ws us xs ns ls ms o l k w less fits put left is written =
-    let next : (k < length ns) × (get_or ns k 0 ≡ w) × (ms ≡ drop (k + 1) ns) = next_of ns ms k w (sym left ∙ is) in
-    let at : k < length ns = next.0 in
+-- word k of a pair is put; us and xs are the memory's words before and after
+pub put_next : (ws us xs ns : List ℕ) (o l k w : ℕ) → k < l → l ≤ length ns → o + l ≤ length ws → us ≡ paste ws o ns k → Some w ≡ slice_get (take l ns) k
+    → xs ≡ written_words us (o + k) w → xs ≡ paste ws o ns (k + 1)
+put_next ws us xs ns o l k w less all fits put is written =
     let long : length us ≡ length ws = ap length put ∙ length-paste ws o ns k (omega arith) (omega arith) in
-    let inside : o + k < length us = omega arith in (
-      written
-          ∙ (cond-true _ _ _ (lt-ltb (o + k) (length us) inside)
-          ∙ (ap (λ (ys : List ℕ). set ys (o + k) w) put
-          ∙ (ap (set (paste ws o ns k) (o + k)) (sym next.1) ∙ paste_more ws o ns k 0 (omega arith) at))),
-      next.2,
-    )
+    let inside : o + k < length us = omega arith in
+    let found : Some w ≡ Some (get_or (take l ns) k 0) = is ∙ slice_get-get_or (take l ns) k 0 (omega (arith, length-take-le l ns all)) in
+    let same : w ≡ get_or (take l ns) k 0 = cc in
+    written
+    ∙ (cond-true _ _ _ (lt-ltb (o + k) (length us) inside)
+    ∙ (ap (λ (ys : List ℕ). set ys (o + k) w) put
+    ∙ (ap (set (paste ws o ns k) (o + k)) (same ∙ get_or-take l ns k 0 less) ∙ paste_more ws o ns k 0 (omega arith) (omega arith))))
 
 -- what is known of the pairs that are left
 module _ (p : Pair) (ps qs : List Pair) (is : ps ≡ p ∷ qs) where

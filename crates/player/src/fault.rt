@@ -9,6 +9,7 @@ ghost use Rattle.player.specs.Image.{fault_at};
 use std::error::Error;
 use std::fmt;
 
+// It has one case, whose number stands at it as with every fault.
 #[derive(Clone, Copy, PartialEq, Debug)]
 pub enum ListFault {
     // The list is full.
@@ -211,7 +212,8 @@ impl fmt::Display for PlayerFault {
 
 impl Error for PlayerFault {}
 
-// A fault of an image or of a text has the player's line.
+// A fault of an image or of a text has the player's line. Not one impl for every `Fault<W>`: the promised text would have to name the
+// player's fault that `From` makes of it, and of `From` a clause knows a relation.
 impl fmt::Display for ImageFault {
     ghost output = { λ e. Some (fault_text (AnImage e)) };
 

@@ -108,7 +108,7 @@ fn lay_pairs<M: Memory>(memory: &mut M, pairs: &[u8], words: &[u8])
 }
 
 // Puts the first of some words into the memory, as a pair says, and gives the bytes after them, where the next pair's words
-// begin: so the loop counts the words and shortens the slice.
+// begin.
 fn lay_pair<'a, M: Memory>(memory: &mut M, pair: Pair, words: &'a [u8]) -> &'a [u8]
     requires sound { M.Memory.sound memory.old }
     requires pair_in_bounds { pair_end pair ≤ length (M.Memory.words memory.old) }
@@ -119,14 +119,11 @@ fn lay_pair<'a, M: Memory>(memory: &mut M, pair: Pair, words: &'a [u8]) -> &'a [
     ensures beside { M.Memory.spare memory.new ≡ M.Memory.spare memory.old }
     ensures kept { M.Memory.sound memory.new }
 {
-    let mut left = words;
-    for k in 0..pair.len {
-        let Some((w, more)) = first_number(left) else {
-            unreachable()
-        };
+    let (mine, left) = words.split_at(4 * pair.len as usize);
+    let (numbers, _) = mine.as_chunks::<4>();
+    for (k, bytes) in numbers.iter().enumerate() {
         // The address is below the size, so the memory takes the word.
-        let _ = memory.write(pair.offset + k, w);
-        left = more;
+        let _ = memory.write(pair.offset + k as u32, u32::from_le_bytes(*bytes));
     }
     left
 }

@@ -1,5 +1,5 @@
 // A list of elements in a row that the caller lends, written once for every kind of element. It takes as many elements
-// as the row has places, but at most 65,535, and adds them at the end.
+// as the row has places, but at most 65,535, and adds them at the end. It is no `Vec`: it allocates nothing.
 ghost use Rattle.std.specs.Prelude.{◌≤◌};
 ghost use Rattle.player.specs.Capacity.{capacity};
 

@@ -10,7 +10,7 @@ pub enum BusKind {
     Quiet = 0,
     // A load without a line for its address.
     BusRead = 1,
-    // A store that other caches must hear of.
+    // A store of which other caches are told.
     BusWrite = 2,
     // Words written back to memory, by a commit or a replacement.
     BusWback = 3,
