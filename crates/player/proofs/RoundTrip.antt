@@ -1,11 +1,11 @@
 -- What is written is read back.
-use Rattle.std.proofs.Common.{◌≡◌, ℕ, ◌+◌, ◌-◌, ◌^◌, ◌<◌, ◌≤◌, Bool, true, false, cond, not, ◌&&◌, eqb, ltb, leb, List, [], ◌∷◌, ◌++◌, map, length, get_or, take, Some, None, Ok, Err, codes, decimal, Option, Result, sym, refl, ap, ◌∙◌, ⊎_elim, arith}
+use Rattle.std.proofs.Common.{◌≡◌, ℕ, ◌+◌, ◌-◌, ◌^◌, ◌<◌, ◌≤◌, Bool, true, false, cond, not, ◌&&◌, eqb, ltb, leb, List, [], ◌∷◌, ◌++◌, map, length, get_or, Some, None, Ok, Err, codes, decimal, Option, Result, refl, ap, ◌∙◌, ⊎_elim, arith}
 use Rattle.std.specs.List.{flat_map, AllByRecursion}
 use Rattle.std.specs.Str.Parse.{digits_value}
 use Rattle.std.specs.Char.{is_ascii_digit}
 use Rattle.std.specs.Str.{all_ascii_digits}
 use Rattle.std.proofs.lemmas.Fmt.{decimal_digit, decimal_nonempty, first_decimal, digits_decimal, digits_value-decimal}
-use Rattle.std.proofs.lemmas.List.{append_assoc, append-nil, flat_map_more, take_more}
+use Rattle.std.proofs.lemmas.List.{append_assoc, append-nil}
 use Rattle.std.proofs.lemmas.Bool.{and_parts, cond-true, cond-false, eq-eqb, ne_eqb, leb-true, lt-ltb, cases_lt}
 use Rattle.versions.specs.declared.turn.Turn.{Turn}
 use Rattle.versions.specs.Turns.{turn_text as turn_shown}
@@ -145,13 +145,6 @@ lines-back at free (t ∷ ts) fit room =
 
 pub text-back : (free : ℕ) (ts : List Turn) → AllByRecursion Small ts → length ts ≤ free → text_read free (text_of ts) ≡ whole_read ts
 text-back free ts fit room = lines-back 0 free ts fit room
-
--- one line more
-pub text-more : (ts : List Turn) (i : ℕ) (d : Turn) (bs line : List ℕ) → i < length ts → bs ≡ text_of (take i ts) → line ≡ line_of (get_or ts i d) → bs ++ line ≡ text_of (take (i + 1) ts)
-text-more ts i d bs line h bs-is line-is =
-    ap (λ (l : List ℕ). l ++ line) bs-is
-    ∙ (ap (λ (l : List ℕ). text_of (take i ts) ++ l) line-is
-    ∙ (flat_map_more line_of [] (take i ts) (get_or ts i d) ∙ ap text_of (sym (take_more ts i d h))))
 
 -- a turn as it shows itself
 pub line-written : (t : Turn) → turn_shown t ++ codes "\n" ≡ line_of t

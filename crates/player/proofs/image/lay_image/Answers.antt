@@ -17,14 +17,10 @@ lay_pairs-requires g c =
     rw (e.front, pairs-of-front c.in-Some.count c.in-Some.rest.now image.pairs)
     (record { sound = c.requires.sound; inside = image.inside; pairs_in_bounds = omega (arith, image.words, e.back_len) })
 
-pub returns : goal.returns
-returns g c =
+pub returns-clause-after : goal.returns-clause-after
+returns-clause-after g c =
     let image = accepted _ _ _ _ _ c.in-Some.ensures.0 c.in-Some.ensures.1 c.requires.accepted in
     let rest = c.in-Some.rest.now in
     let e = c.split_at.ensures in
     let laid = rw (e.front, e.back, pairs-of-front c.in-Some.count rest image.pairs, words-after-pairs c.in-Some.count rest image.pairs) at c.lay_pairs.ensures.after in
-    record {
-      after = image-laid _ _ _ _ _ c.in-Some.ensures.0 c.requires.accepted laid;
-      beside = c.lay_pairs.ensures.beside;
-      kept = c.lay_pairs.ensures.kept;
-    }
+    image-laid _ _ _ _ _ c.in-Some.ensures.0 c.requires.accepted laid

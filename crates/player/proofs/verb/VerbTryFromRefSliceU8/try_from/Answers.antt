@@ -2,14 +2,6 @@ use Rattle.std.proofs.Common.{codes, refl, arith, rules}
 use Rattle.std.proofs.lemmas.Slice.Eq.{text_from_reads}
 use Rattle.player.proofs.verb.VerbTryFromRefSliceU8.try_from.Goals as goal
 
-pub returns-in-start : goal.returns-in-start
-returns-in-start c =
-    rw (text_from_reads c.args.word.now (codes "start") (omega arith) (search rules)) refl
-
-pub returns-in-store : goal.returns-in-store
-returns-in-store c =
-    rw (text_from_reads c.args.word.now (codes "store") (omega arith) (search rules)) refl
-
 pub returns-in-squash : goal.returns-in-squash
 returns-in-squash c =
     rw (text_from_reads c.args.word.now (codes "squash") (omega arith) (search rules)) refl
