@@ -1,25 +1,24 @@
 // Images and texts that are played on both stores, and their listings.
-ghost use Rattle.std.specs.Prelude.{◌≡◌, ◌≤◌, length};
-ghost use Rattle.memory.specs.Words.{MemorySize};
+ghost use Rattle.std.specs.Prelude.{◌≤◌};
 
-use memory::{Memory, WordMemory};
-use player::{Input, Lists, RowList, listing, play_on};
+use memory::WordMemory;
+use player::{Input, Lists, RowList, listing, play_on, words_of};
 use std::process::Abort;
 use std::test::*;
 use stores::{CentralBuffer, SnoopingStore, Turn, VersionStore};
 
-// Plays over zero words in the row, with eight places for turns and so many for answers. That word memory means the same
-// below this store as elsewhere is asked, since a bound does not say it.
-fn plays_on<'a, S: VersionStore<Below = WordMemory<'a>>, const PLACES: usize>(
+// Plays over a memory, with eight places for turns and so many for answers.
+fn plays_on<S: VersionStore, const PLACES: usize>(
     rt: &(impl Abort + AllocGlobal),
-    words: &'a mut [u32],
+    memory: S::Below,
     image: &[u8],
     text: &str,
     lines: &str,
 ) -> Result<(), Fail>
+where
+    S::Below: Drop,
     requires places { PLACES ≤ 8 }
-    requires words { (memory : _) → ⟦<S::Below as Memory>⟧.words memory ≡ memory.row.now }
-    requires sound { (memory : _) → MemorySize (length memory.row.now) → ⟦<S::Below as Memory>⟧.sound memory }
+    requires sound { S.Below.Memory.sound memory }
 {
     let mut turns = [Turn::Start { p: 0 }; 8];
     let mut answers = [Ok(0); PLACES];
@@ -31,9 +30,9 @@ fn plays_on<'a, S: VersionStore<Below = WordMemory<'a>>, const PLACES: usize>(
         image,
         text: text.as_bytes(),
     };
-    assert!(rt; WordMemory::check(words).is_ok());
-    let (memory, outcome) = play_on::<S>(WordMemory::open(words), input, &mut lists);
-    let told = listing(rt.alloc(), lists.answers.items(), outcome, memory.close())?;
+    let (mut memory, outcome) = play_on::<S>(memory, input, &mut lists);
+    let words = words_of(rt.alloc(), &mut memory)?;
+    let told = listing(rt.alloc(), lists.answers.items(), outcome, words.as_slice())?;
     assert_eq!(rt; told.as_str(), lines, "{}", text);
     Ok(())
 }
@@ -47,8 +46,20 @@ fn plays<const PLACES: usize>(
 ) -> Result<(), Fail>
     requires { PLACES ≤ 8 }
 {
-    plays_on::<SnoopingStore<WordMemory>, PLACES>(rt, &mut [0; 64], image, text, lines)?;
-    plays_on::<CentralBuffer<WordMemory>, PLACES>(rt, &mut [0; 64], image, text, lines)
+    plays_on::<SnoopingStore<WordMemory>, PLACES>(
+        rt,
+        WordMemory::open(&mut [0; 64]),
+        image,
+        text,
+        lines,
+    )?;
+    plays_on::<CentralBuffer<WordMemory>, PLACES>(
+        rt,
+        WordMemory::open(&mut [0; 64]),
+        image,
+        text,
+        lines,
+    )
 }
 
 #[test]

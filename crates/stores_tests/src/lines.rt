@@ -1,7 +1,6 @@
 // Every valid line of the snooping store and its bus report, after every turn, by hand. The central buffer is held to the
 // same answers, and both stores to the same words of the memory. All runs begin with 64 zero words.
-ghost use Rattle.std.specs.Prelude.{◌≡◌, length};
-ghost use Rattle.memory.specs.Words.{MemorySize};
+ghost use Rattle.std.specs.Prelude.{◌≡◌};
 ghost use Rattle.snooping.specs.declared.report.BusReport.{BusReport};
 
 use crate::turns::{commit, load, replace, squash, start, store};
@@ -159,17 +158,13 @@ impl<M: Memory> Watched for CentralBuffer<M> {
     fn compare(&self, _rt: &impl Abort, _report: BusReport, _lines: &[Row]) {}
 }
 
-// Starts the tasks in their order on a store over a row of words, plays the turns, and looks at the store after each. That
-// word memory is sound below this store as elsewhere is asked, since a bound does not say it.
-fn watch<'a, S: Watched<Below = WordMemory<'a>>>(
-    rt: &impl Abort,
-    row: &'a mut [u32; 64],
-    order: &[u32],
-    played: &[Played],
-)
-    requires { (memory : _) → MemorySize (length memory.row.now) → ⟦<S::Below as Memory>⟧.sound memory }
+// Starts the tasks in their order on a store over a memory, plays the turns, and looks at the store after each.
+fn watch<S: Watched>(rt: &impl Abort, memory: S::Below, order: &[u32], played: &[Played])
+where
+    S::Below: Drop,
+    requires { S.Below.Memory.sound memory }
 {
-    let mut store = S::open(WordMemory::open(row));
+    let mut store = S::open(memory);
     store.compare(rt, QUIET, &[]);
     let name = S::NAME;
     for p in order {
@@ -202,10 +197,10 @@ fn expect(rt: &impl Abort, order: &[u32], played: &[Played], left: &[(u32, u32)]
     let mut words = [0; 64];
     put_words(rt, &mut words, left);
     let mut below_caches = [0; 64];
-    watch::<SnoopingStore<WordMemory>>(rt, &mut below_caches, order, played);
+    watch::<SnoopingStore<WordMemory>>(rt, WordMemory::open(&mut below_caches), order, played);
     assert_eq!(rt; below_caches, words, "a word below the caches differs");
     let mut below_buffer = [0; 64];
-    watch::<CentralBuffer<WordMemory>>(rt, &mut below_buffer, order, played);
+    watch::<CentralBuffer<WordMemory>>(rt, WordMemory::open(&mut below_buffer), order, played);
     assert_eq!(rt; below_buffer, words, "a word below the buffer differs");
 }
 

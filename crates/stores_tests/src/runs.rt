@@ -1,7 +1,6 @@
 // Each worked run: its turns, each with its answer by hand. Both stores are held to them. Every run begins with 64 zero words
 // and tasks on 0, 1, 2 and 3. Those that are about lines are in lines.rt too.
-ghost use Rattle.std.specs.Prelude.{◌≤◌, length};
-ghost use Rattle.memory.specs.Words.{MemorySize};
+ghost use Rattle.std.specs.Prelude.{◌≤◌};
 
 use crate::turns::{commit, load, replace, squash, start, store};
 use memory::{Memory, WordMemory};
@@ -10,16 +9,17 @@ use stores::{
     Answer, AnswersFull, CentralBuffer, Refusal, SnoopingStore, Turn, VersionStore, play_turns,
 };
 
-// Plays the turns after four starts on a store over a row of words, and tells whether there was a place for each answer. That
-// word memory is sound below this store as elsewhere is asked, since a bound does not say it.
-fn play<'a, S: VersionStore<Below = WordMemory<'a>>>(
-    row: &'a mut [u32; 64],
+// Plays the turns after four starts on a store over a memory, and tells whether there was a place for each answer.
+fn play<S: VersionStore>(
+    memory: S::Below,
     turns: &[Turn],
     answers: &mut [Answer],
 ) -> Result<(), AnswersFull>
-    requires { (memory : _) → MemorySize (length memory.row.now) → ⟦<S::Below as Memory>⟧.sound memory }
+where
+    S::Below: Drop,
+    requires { S.Below.Memory.sound memory }
 {
-    let mut store = S::open(WordMemory::open(row));
+    let mut store = S::open(memory);
     let mut started = [Ok(0); 4];
     let _ = play_turns(
         &mut store,
@@ -39,8 +39,18 @@ fn expect<const N: usize>(rt: &impl Abort, run: [(Turn, Answer); N])
     let expected = run.map(|(_, answer)| answer);
     let mut buffered = [Ok(0); N];
     let mut snooped = [Ok(0); N];
-    assert!(rt; play::<CentralBuffer<WordMemory>>(&mut [0; 64], &turns, &mut buffered).is_ok());
-    assert!(rt; play::<SnoopingStore<WordMemory>>(&mut [0; 64], &turns, &mut snooped).is_ok());
+    let on_buffer = play::<CentralBuffer<WordMemory>>(
+        WordMemory::open(&mut [0; 64]),
+        &turns,
+        &mut buffered,
+    );
+    assert!(rt; on_buffer.is_ok());
+    let on_caches = play::<SnoopingStore<WordMemory>>(
+        WordMemory::open(&mut [0; 64]),
+        &turns,
+        &mut snooped,
+    );
+    assert!(rt; on_caches.is_ok());
     assert_eq!(rt;
         buffered,
         expected,
@@ -211,18 +221,24 @@ fn a_commit_writes_every_own_word(rt: HostRuntime) {
     );
 }
 
-#[test]
-fn answers_without_a_place_are_not_played(rt: HostRuntime) {
+// Of two turns, one has no place for its answer.
+fn expect_one_place<S: VersionStore>(rt: &impl Abort, memory: S::Below)
+where
+    S::Below: Drop,
+    requires { S.Below.Memory.sound memory }
+{
     let mut answers = [Ok(9); 1];
     let turns = [load(0, 63), load(0, 64)];
-    assert!(rt; play::<CentralBuffer<WordMemory>>(&mut [0; 64], &turns, &mut answers).is_err());
+    assert!(rt; play::<S>(memory, &turns, &mut answers).is_err());
     assert_eq!(rt; answers, [Ok(0)]);
 }
 
 #[test]
+fn answers_without_a_place_are_not_played(rt: HostRuntime) {
+    expect_one_place::<CentralBuffer<WordMemory>>(&rt, WordMemory::open(&mut [0; 64]));
+}
+
+#[test]
 fn answers_without_a_place_are_not_played_on_caches(rt: HostRuntime) {
-    let mut answers = [Ok(9); 1];
-    let turns = [load(0, 63), load(0, 64)];
-    assert!(rt; play::<SnoopingStore<WordMemory>>(&mut [0; 64], &turns, &mut answers).is_err());
-    assert_eq!(rt; answers, [Ok(0)]);
+    expect_one_place::<SnoopingStore<WordMemory>>(&rt, WordMemory::open(&mut [0; 64]));
 }
