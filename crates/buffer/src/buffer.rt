@@ -55,8 +55,9 @@ impl<M: Memory> VersionStore for CentralBuffer<M> {
         }
     }
 
-    // The snooping store has the same calls. What they share is in `TaskTable` and `write_own`, `write_back`; what is left here are
-    // steps on this store's own rows, which no generic form says more plainly: there each step ends in a report.
+    // The snooping store has the same calls. What they share is in `TaskTable` and `write_own`, `write_back`; what is left are lines on
+    // this store's own fields. One form for both would be no plainer: this store's steps would have to speak of reports, which only
+    // the snooping store has.
     fn start(&mut self, p: u32) -> Answer {
         let (p, active) = self.tasks.startable(p)?;
         self.tasks.append(p);

@@ -34,7 +34,8 @@ pub fn read_turns(text: &[u8], turns: &mut RowList<Turn>) -> Result<(), TextFaul
 }
 
 // Takes a field of a line. A space, a line end or the end of the text comes next: that is so after a part of a line and not
-// where a line begins, so each step within a line requires it.
+// where a line begins, so each step within a line requires it. (A type for the rest of a line would be made after each verb and used up
+// at the line's end, for these five functions alone.)
 fn read_field(tokens: &mut Tokens) -> Result<u32, TextWhy>
     requires { part_length (text_left tokens.old) ≡ 0 }
     ensures field { MatchResult result (FieldTaken (text_left tokens.old) (text_left tokens.new)) (NoField (text_left tokens.old)) }

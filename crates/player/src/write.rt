@@ -29,7 +29,7 @@ pub fn write_turn(heap: Global, turn: Turn) -> Result<String, AllocError>
     Ok(text)
 }
 
-// Adds the line of a turn. Passed by value, the turn brings along that its fields are numbers of 32 bits, which reading back
+// Adds the line of a turn. Passed by value, it is known of the turn that its fields are numbers of 32 bits, which reading back
 // needs.
 fn write_line(text: &mut String, turn: Turn) -> Result<(), AllocError>
     ensures text { IfOk result (λ _. string_bytes text.new ≡ string_bytes text.old ++ line_of turn) }

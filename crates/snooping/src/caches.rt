@@ -1,4 +1,4 @@
-// The four caches and the order of the active tasks, which the bus knows.
+// The four caches and the order of the active tasks.
 ghost use Rattle.snooping.specs.Grid.{line_in, Tagged, Wide};
 
 use crate::cache::Cache;

@@ -63,8 +63,8 @@ impl<M: Memory> VersionStore for SnoopingStore<M> {
         }
     }
 
-    // The central buffer has the same calls. What they share is in `TaskTable` and `write_own`, `write_back`; what is left here are
-    // steps on this store's own lines, which no generic form says more plainly: each ends in a report of its own.
+    // The central buffer has the same calls. What they share is in `TaskTable` and `write_own`, `write_back`; what is left are lines on
+    // this store's own fields. One form for both would be no plainer: the buffer's steps would have to speak of reports.
     fn start(&mut self, p: u32) -> Answer {
         let (p, active) = self.caches.startable(p)?;
         self.caches.append(p);
