@@ -1,6 +1,7 @@
 // Code over any memories, written and proved once: it knows nothing of them but their interface. So it goes by
 // addresses, as a memory shows no slice of its words. The clauses stand out, here and where a program hands them on: a record of
-// them would have to be told the words, bytes and condition of both memories.
+// them would have to be told the words, bytes and condition of both memories. And one form for the two functions would take what is done at an
+// address as a closure, whose effect each contract would have to spell out.
 ghost use Rattle.std.specs.Prelude.{◌≡◌, ℕ, List, Ok};
 ghost use Rattle.memory.specs.Client.{shared, copied, differences};
 

@@ -9,8 +9,8 @@ use crate::refusal::Answer;
 use crate::store::VersionStore;
 use crate::turn::Turn;
 
-// There was no place for the answer to the turn `at`, counted from 0, and it was not played. Nothing prints it: the player tells
-// it as its own fault.
+// There was no place for the answer to the turn `at`, counted from 0, and it was not played. It is no fault of
+// a list, which stands above: the player tells it as one, and nothing prints this.
 #[derive(Clone, Copy, PartialEq, Debug)]
 pub struct AnswersFull {
     pub at: usize,

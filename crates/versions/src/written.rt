@@ -56,7 +56,8 @@ pub fn write_own<M: Memory>(memory: &mut M, a: u32, own: Option<u32>) -> Written
     }
 }
 
-// Writes the own words of p's task to memory, class by class.
+// Writes the own words of p's task to memory, class by class: each step is a call with its class, and there are no classes to go over but
+// their numbers.
 pub fn write_back<M: Memory, T: TaskTable>(memory: &mut M, tasks: &T, p: Processor) -> WrittenBack
     requires sound { M.Memory.sound memory.old }
     requires fitting { Fitting (length (M.Memory.words memory.old)) (T.TaskTable.processors tasks.now) (T.TaskTable.table tasks.now) }
