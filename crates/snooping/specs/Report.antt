@@ -63,7 +63,8 @@ abbrev pub written_last : Option ℕ → ℕ → BusReport
 written_last None n = quiet
 written_last (Some a) n = written_back a n
 
--- a turn that is not refused
+-- a turn that is not refused; a store hits where its line has S and no pointer, that is where it has an own word and no later task
+-- holds the address
 abbrev pub report_of : Plain → Turn → BusReport
 report_of s (Start p) = quiet
 report_of s (Load p a) = cond (is_held ((task_on p s.order).at a)) quiet (bus_read a (supplied_by (last_owner a (before (is_on p) s.order))))

@@ -29,11 +29,11 @@ impl BusKind {
 // processor is a number, as they read it.
 #[derive(Clone, Copy, PartialEq, Debug)]
 pub enum Supplier {
-    // The cache of a processor.
+    // The cache of a processor, with the processor's number.
     Processor { p: u32 },
-    // The memory.
+    // The memory: 4.
     Memory,
-    // Nobody: the turn is no bus read.
+    // Nobody, where the turn is no bus read: 5.
     Nobody,
 }
 

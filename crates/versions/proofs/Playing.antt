@@ -7,6 +7,7 @@ use Rattle.versions.specs.declared.turn.Turn.{Turn}
 use Rattle.versions.specs.Plain.{Plain, answer_of, state_after, answers_of, state_after_all}
 use Rattle.versions.specs.Played.{turns_played}
 use Rattle.versions.specs.Sequential.{Leads, ReadsOn, paired}
+use Rattle.versions.specs.Taken.{ShowsAll}
 use Rattle.versions.proofs.Reading.{reads_on}
 
 state_after_all-push : (s : Plain) (ts : List Turn) (t : Turn) → state_after_all s (ts ++ t ∷ []) ≡ state_after (state_after_all s ts) t
@@ -26,6 +27,15 @@ pub state-step : (s : Plain) (ts : List Turn) (i : ℕ) (d : Turn) (u v : Plain)
     → v ≡ state_after_all s (take (i + 1) ts)
 state-step s ts i d u v h u-is v-is =
     v-is ∙ (ap (λ (x : Plain). state_after x (get_or ts i d)) u-is ∙ sym (ap (state_after_all s) (take_more ts i d h) ∙ state_after_all-push s (take i ts) (get_or ts i d)))
+
+-- and what the store shows of it, after what it showed of the turns before
+shows-push : {S : Type 0} (show : S → Turn → S → Type 0) (s u v : S) (ts : List Turn) (t : Turn) → ShowsAll show s ts u → show u t v → ShowsAll show s (ts ++ t ∷ []) v
+shows-push show s u v [] t same one = (v, subst (λ x. show x t v) same one, refl)
+shows-push show s u v (r ∷ ts) t all one = (all.0, all.1, shows-push show all.0 u v ts t all.2 one)
+
+pub shows-step : {S : Type 0} (show : S → Turn → S → Type 0) (s u v : S) (ts : List Turn) (i : ℕ) (d : Turn) → i < length ts → ShowsAll show s (take i ts) u → show u (get_or ts i d) v
+    → ShowsAll show s (take (i + 1) ts) v
+shows-step show s u v ts i d h all one = subst (λ (l : List Turn). ShowsAll show s l v) (sym (take_more ts i d h)) (shows-push show s u v (take i ts) (get_or ts i d) all one)
 
 -- and its answer r written at its place
 pub answers-step : (s : Plain) (ts : List Turn) (rs qs : List (Result ℕ Refusal)) (i : ℕ) (d : Turn) (u : Plain) (r e : Result ℕ Refusal) → i < length ts → i < length rs

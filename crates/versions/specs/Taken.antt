@@ -1,6 +1,6 @@
 -- A turn taken by a store of type S, by what the store's own type says of it: the plain state that it stands for, what it shows of
 -- a turn, the bytes beside the words, and the condition that it keeps.
-use Rattle.std.specs.Prelude.{◌≡◌, ℕ, List, Result}
+use Rattle.std.specs.Prelude.{◌≡◌, ℕ, List, [], ◌∷◌, Result}
 use Rattle.versions.specs.declared.refusal.Refusal.{Refusal}
 use Rattle.versions.specs.declared.turn.Turn.{Turn}
 use Rattle.versions.specs.Plain.{Plain, answer_of, state_after}
@@ -11,3 +11,8 @@ pub record Took {S : Type 0} (state : S → Plain) (show : S → Turn → S → 
   pub shows : show s t later
   pub beside : rest later ≡ rest s
   pub kept : good later
+
+-- what a store shows of turns that it took one after another
+abbrev pub ShowsAll : {S : Type 0} → (S → Turn → S → Type 0) → S → List Turn → S → Type 0
+ShowsAll show s [] later = later ≡ s
+ShowsAll {S} show s (t ∷ ts) later = (next : S) × show s t next × ShowsAll show next ts later

@@ -4,6 +4,7 @@ ghost use Rattle.versions.specs.Plain.{Plain, conditions, Rising, answer_of, sta
 ghost use Rattle.versions.specs.Played.{play_answer, turns_played};
 ghost use Rattle.versions.specs.Runs.{WorkedRuns};
 ghost use Rattle.versions.specs.Sequential.{ReadsOn, event_of, paired};
+ghost use Rattle.versions.specs.Taken.{ShowsAll};
 
 use crate::refusal::Answer;
 use crate::store::VersionStore;
@@ -40,6 +41,7 @@ pub fn play_turns<S: VersionStore>(
     ensures answers { answers.new ≡ answers_of (S.VersionStore.plain store.old) (take (turns_played turns.now answers.old) turns.now) ++ drop (turns_played turns.now answers.old) answers.old }
     ensures after { S.VersionStore.plain store.new ≡ state_after_all (S.VersionStore.plain store.old) (take (turns_played turns.now answers.old) turns.now) }
     ensures sequential { ReadsOn (S.VersionStore.plain store.old) (paired turns.now answers.new) (S.VersionStore.plain store.new) }
+    ensures shows { ShowsAll S.VersionStore.shows store.old (take (turns_played turns.now answers.old) turns.now) store.new }
     ensures beside { S.VersionStore.spare store.new ≡ S.VersionStore.spare store.old }
     ensures kept { S.VersionStore.sound store.new }
 {

@@ -2,7 +2,8 @@ use Rattle.std.proofs.Common.{◌≡◌, ℕ, ◌+◌, ◌-◌, ◌<◌, ◌≤�
 use Rattle.versions.specs.declared.refusal.Refusal.{Refusal}
 use Rattle.versions.specs.declared.turn.Turn.TheVariants.{Start}
 use Rattle.versions.specs.Plain.{active_tasks, answers_of, state_after_all}
-use Rattle.versions.proofs.Playing.{state-step}
+use Rattle.versions.specs.Taken.{ShowsAll}
+use Rattle.versions.proofs.Playing.{state-step, shows-step}
 use Rattle.player.specs.Lists.{content, free, room, row_of, is_full}
 use Rattle.player.specs.Text.{written}
 use Rattle.player.proofs.Adding.{answers-more, one-added, all-added, length-played, no_place}
@@ -30,6 +31,7 @@ loop-i-preserved g c =
       ),
       subst (λ (k : ℕ). i + 1 ≤ k - length (content l₀)) inv.2.2 a.2,
       c.take_turn.ensures.beside ∙ inv.4,
+      shows-step m.shows c.args.store.now c.loop-i.store c.take_turn.new.self ts i (Start 0) inside inv.5 c.take_turn.ensures.shows,
     )
 
 pub returns-then-is_full : goal.returns-then-is_full
@@ -51,6 +53,7 @@ returns-then-is_full g c =
         inv.2.2,
       );
       after = inv.1 ∙ ap (λ (k : ℕ). state_after_all s (take k ts)) all;
+      shows = subst (λ (k : ℕ). ShowsAll m.shows c.args.store.now (take k ts) c.loop-i.store) all inv.5;
       beside = inv.4;
       kept = inv.0;
     }

@@ -2,6 +2,7 @@ use Rattle.std.proofs.Common.{◌≡◌, ◌≤◌, take}
 use Rattle.versions.specs.Plain.{answers_of, state_after_all}
 use Rattle.player.specs.Lists.{free}
 use Rattle.player.specs.Scripts.{Gained}
+use Rattle.versions.specs.Taken.{ShowsAll}
 use Rattle.player.proofs.play.play_each.Given as goal
 
 -- the turns before i are played, and their answers in the list
@@ -13,3 +14,4 @@ invariant-loop-i g l =
     × Gained l.initial.answers (answers_of (m.plain l.initial.store) (take l.i l.turns)) l.answers
     × (l.i ≤ free l.initial.answers)
     × (m.spare l.store ≡ m.spare l.initial.store)
+    × ShowsAll m.shows l.initial.store (take l.i l.turns) l.store

@@ -2,7 +2,7 @@ use Rattle.std.proofs.Common.{◌≡◌, ◌<◌, length, Ok, ◌∙◌, arith}
 use Rattle.std.proofs.lemmas.List.{length-set}
 use Rattle.versions.specs.declared.turn.Turn.TheVariants.{Start}
 use Rattle.versions.specs.Played.{turns_played}
-use Rattle.versions.proofs.Playing.{state-step, answers-step, played-reads-on}
+use Rattle.versions.proofs.Playing.{state-step, answers-step, shows-step, played-reads-on}
 use Rattle.versions.proofs.play.play_turns.Goals as goal
 
 pub loop-i-preserved : goal.loop-i-preserved
@@ -21,6 +21,7 @@ loop-i-preserved g c =
       c.take_turn.ensures.beside ∙ c.loop-i.invariant.3,
       omega (arith, same),
       same ∙ c.loop-i.invariant.5,
+      shows-step m.shows c.args.store.now c.loop-i.store c.take_turn.new.self ts i (Start 0) inside c.loop-i.invariant.6 c.take_turn.ensures.shows,
     )
 
 pub returns-then-i-answers-clause-sequential : goal.returns-then-i-answers-clause-sequential

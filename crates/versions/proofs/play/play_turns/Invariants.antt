@@ -1,5 +1,6 @@
 use Rattle.std.proofs.Common.{◌≡◌, ◌≤◌, ◌++◌, length, take, drop}
 use Rattle.versions.specs.Plain.{answers_of, state_after_all}
+use Rattle.versions.specs.Taken.{ShowsAll}
 use Rattle.versions.proofs.play.play_turns.Given as goal
 
 -- the turns before i are played, and their answers written
@@ -12,3 +13,4 @@ invariant-loop-i g l =
     × (m.spare l.store ≡ m.spare l.initial.store)
     × (l.i ≤ length l.answers)
     × (length l.answers ≡ length l.initial.answers)
+    × ShowsAll m.shows l.initial.store (take l.i l.turns) l.store
