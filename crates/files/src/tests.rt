@@ -1,5 +1,5 @@
 // What no contract says of a file, and one run over a source whose bytes are known.
-use crate::{fill, read_start};
+use crate::{fill, read_start, take_most};
 use std::test::Fail;
 
 #[test]
@@ -18,5 +18,15 @@ fn a_source_is_read_until_it_ends_or_the_buffer_is_full(rt: HostRuntime) -> Resu
     assert_eq!(rt; fill(&mut source, &mut row)?, 2);
     assert_eq!(rt; row, [4, 5, 3]);
     assert_eq!(rt; fill(&mut source, &mut row)?, 0);
+    Ok(())
+}
+
+#[test]
+fn no_more_bytes_are_taken_than_asked_for(rt: HostRuntime) -> Result<(), Fail> {
+    let bytes = vec![in rt.alloc(); 7u8; 32769]?;
+    let mut source = bytes.as_slice();
+    let taken = take_most(rt.alloc(), &mut source, 32768)?;
+    assert_eq!(rt; taken.len(), 32768);
+    assert_eq!(rt; source, [7].as_slice());
     Ok(())
 }

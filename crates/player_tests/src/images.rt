@@ -1,6 +1,9 @@
-// Images that are loaded and images that are refused, over eight words.
+// Images that are loaded and images that are refused, over eight words but for the last.
+ghost use Rattle.std.specs.Prelude.{◌≤◌};
+
 use memory::WordMemory;
 use player::{ImageFault, ImageWhy, load_image};
+use std::alloc::Global;
 use std::process::Abort;
 use std::test::*;
 
@@ -83,7 +86,11 @@ fn pairs_have_words_and_are_sorted(rt: HostRuntime) -> Result<(), Fail> {
     refuses(&rt, &[1, 0, 0], 0, ImageWhy::PairOrder, 4)?;
     refuses(&rt, &[1, 9, 0], 0, ImageWhy::PairOrder, 4)?;
     refuses(&rt, &[2, 1, 2, 2, 1], 0, ImageWhy::PairOrder, 12)?;
-    refuses(&rt, &[2, 4, 1, 2, 1, 70, 71], 0, ImageWhy::PairOrder, 12)
+    refuses(&rt, &[2, 4, 1, 2, 1, 70, 71], 0, ImageWhy::PairOrder, 12)?;
+    refuses(&rt, &[2, 0, 1, 3, 0], 0, ImageWhy::PairOrder, 12)?;
+    // The second pair also ends outside.
+    refuses(&rt, &[2, 0, 4, 3, 9], 0, ImageWhy::PairOrder, 12)?;
+    refuses(&rt, &[1, 4294967295, 0], 0, ImageWhy::PairOrder, 4)
 }
 
 #[test]
@@ -98,5 +105,38 @@ fn pairs_end_inside_the_memory(rt: HostRuntime) -> Result<(), Fail> {
         ImageWhy::PairOutside,
         4,
     )?;
-    refuses(&rt, &[2, 0, 9, 0, 0], 0, ImageWhy::PairOutside, 4)
+    refuses(&rt, &[2, 0, 9, 0, 0], 0, ImageWhy::PairOutside, 4)?;
+    refuses(&rt, &[2, 0, 1, 8, 1], 0, ImageWhy::PairOutside, 12)
+}
+
+// The numbers of an image of so many pairs of one word each, at every second address from 0 on: 100, 101 and so on.
+fn one_word_pairs(heap: Global, pairs: u32) -> Result<Vec<u32>, Fail>
+    requires { pairs ≤ 65 }
+{
+    let mut numbers = Vec::new(heap);
+    numbers.push(pairs)?;
+    for i in 0..pairs {
+        numbers.push(2 * i)?;
+        numbers.push(1)?;
+    }
+    for i in 0..pairs {
+        numbers.push(100 + i)?;
+    }
+    Ok(numbers)
+}
+
+#[test]
+fn sixty_four_pairs_are_loaded_and_one_more_is_refused(rt: HostRuntime) -> Result<(), Fail> {
+    let mut row = [7; 130];
+    let numbers = one_word_pairs(rt.alloc(), 65)?;
+    let fault = ImageFault {
+        why: ImageWhy::PairCount,
+        place: 0,
+    };
+    assert_eq!(rt; load_numbers(&rt, &mut row, numbers.as_slice(), 0)?, Err(fault));
+    assert_eq!(rt; row, [7; 130]);
+    let numbers = one_word_pairs(rt.alloc(), 64)?;
+    assert_eq!(rt; load_numbers(&rt, &mut row, numbers.as_slice(), 0)?, Ok(()));
+    assert_eq!(rt; [row[0], row[1], row[2], row[126], row[127]], [100, 7, 101, 163, 7]);
+    Ok(())
 }

@@ -97,5 +97,6 @@ fn a_full_list_of_turns_is_told_at_its_line(rt: HostRuntime) -> Result<(), Fail>
 #[test]
 fn a_full_list_of_answers_is_told_at_its_turn(rt: HostRuntime) -> Result<(), Fail> {
     let text = "start 0\nstart 1\nstart 2\n";
-    plays::<2>(&rt, &[0; 4], text, "fault list 16 2\n")
+    plays::<2>(&rt, &[0; 4], text, "fault list 16 2\n")?;
+    plays::<0>(&rt, &[0; 4], text, "fault list 16 0\n")
 }

@@ -12,14 +12,24 @@ fn refused(
     place: usize,
     turns: usize,
 ) -> Result<(), Fail> {
+    refused_bytes(rt, text.as_bytes(), number, place, turns)
+}
+
+fn refused_bytes(
+    rt: &impl Abort,
+    text: &[u8],
+    number: u8,
+    place: usize,
+    turns: usize,
+) -> Result<(), Fail> {
     let mut row = [Turn::Start { p: 0 }; 3];
     let mut list = RowList::new(&mut row);
-    let Err(fault) = read_turns(text.as_bytes(), &mut list) else {
+    let Err(fault) = read_turns(text, &mut list) else {
         return Err(Fail::new("the text was accepted"));
     };
-    assert_eq!(rt; fault.why.number(), number, "{}", text);
-    assert_eq!(rt; fault.place, place, "{}", text);
-    assert_eq!(rt; list.len(), turns, "{}", text);
+    assert_eq!(rt; fault.why.number(), number, "{:?}", text);
+    assert_eq!(rt; fault.place, place, "{:?}", text);
+    assert_eq!(rt; list.len(), turns, "{:?}", text);
     Ok(())
 }
 
@@ -45,7 +55,19 @@ fn a_field_is_plain_decimal(rt: HostRuntime) -> Result<(), Fail> {
     refused(&rt, "start 1\r\n", 14, 0, 0)?;
     refused(&rt, "load 1\n", 14, 0, 0)?;
     refused(&rt, "start 99999999999x\n", 14, 0, 0)?;
-    refused(&rt, "start 04294967296\n", 14, 0, 0)
+    refused(&rt, "start 04294967296\n", 14, 0, 0)?;
+    refused(&rt, "squash\n", 14, 0, 0)?;
+    refused(&rt, "load 1 05\n", 14, 0, 0)?;
+    refused(&rt, "store 1 2\n", 14, 0, 0)?;
+    refused(&rt, "store 0 5 x\n", 14, 0, 0)?;
+    refused(&rt, "store 0 x 4294967296\n", 14, 0, 0)?;
+    refused(&rt, "start 0\nload 1\n", 14, 8, 1)
+}
+
+#[test]
+fn bytes_that_are_no_text_are_refused_like_others(rt: HostRuntime) -> Result<(), Fail> {
+    refused_bytes(&rt, b"start 0\n\xff\xfe\0\n", 13, 8, 1)?;
+    refused_bytes(&rt, b"start \xc3\x28\n", 14, 0, 0)
 }
 
 #[test]
@@ -54,7 +76,10 @@ fn a_field_has_32_bits(rt: HostRuntime) -> Result<(), Fail> {
     refused(&rt, "store 4294967296 x 1\n", 15, 0, 0)?;
     refused(&rt, "store x 4294967296 1\n", 14, 0, 0)?;
     refused(&rt, "start 99999999999999999999999999999999\n", 15, 0, 0)?;
-    refused(&rt, "load 0 1\nload 1 18446744073709551616", 15, 9, 1)
+    refused(&rt, "load 0 1\nload 1 18446744073709551616", 15, 9, 1)?;
+    refused(&rt, "store 0 5 4294967296\n", 15, 0, 0)?;
+    refused(&rt, "store 0 4294967296 x\n", 15, 0, 0)?;
+    refused(&rt, "replace 0 4294967296\n", 15, 0, 0)
 }
 
 #[test]

@@ -1,5 +1,6 @@
 // Texts that are read whole, and written again.
 use player::{RowList, read_turns, write_turn, write_turns};
+use std::alloc::Global;
 use std::test::*;
 use stores::Turn;
 
@@ -20,6 +21,34 @@ fn each_line_is_a_turn(rt: HostRuntime) -> Result<(), Fail> {
     assert_eq!(rt; list.len(), 2);
     read_turns("start 0\n".as_bytes(), &mut list)?;
     assert_eq!(rt; list.len(), 3);
+    Ok(())
+}
+
+// As many lines of eight bytes each.
+fn lines(heap: Global, count: u32) -> Result<String, Fail> {
+    let mut text = String::new(heap);
+    for _ in 0..count {
+        text.push_str("start 9\n")?;
+    }
+    Ok(text)
+}
+
+#[test]
+fn a_list_of_2048_places_takes_2048_lines(rt: HostRuntime) -> Result<(), Fail> {
+    let mut row = vec![in rt.alloc(); Turn::Start { p: 0 }; 2048]?;
+    let mut list = RowList::new(row.as_mut_slice());
+    let text = lines(rt.alloc(), 2048)?;
+    read_turns(text.as_bytes(), &mut list)?;
+    assert_eq!(rt; list.len(), 2048);
+    let mut row = vec![in rt.alloc(); Turn::Start { p: 0 }; 2048]?;
+    let mut list = RowList::new(row.as_mut_slice());
+    let text = lines(rt.alloc(), 2049)?;
+    let Err(fault) = read_turns(text.as_bytes(), &mut list) else {
+        return Err(Fail::new("the text was accepted"));
+    };
+    assert_eq!(rt; fault.why.number(), 16);
+    assert_eq!(rt; fault.place, 16384);
+    assert_eq!(rt; list.len(), 2048);
     Ok(())
 }
 
