@@ -133,10 +133,16 @@ fn sixty_four_pairs_are_loaded_and_one_more_is_refused(rt: HostRuntime) -> Resul
         why: ImageWhy::PairCount,
         place: 0,
     };
-    assert_eq!(rt; load_numbers(&rt, &mut row, numbers.as_slice(), 0)?, Err(fault));
+    assert_eq!(rt;
+        load_numbers(&rt, &mut row, numbers.as_slice(), 0)?,
+        Err(fault)
+    );
     assert_eq!(rt; row, [7; 130]);
     let numbers = one_word_pairs(rt.alloc(), 64)?;
     assert_eq!(rt; load_numbers(&rt, &mut row, numbers.as_slice(), 0)?, Ok(()));
-    assert_eq!(rt; [row[0], row[1], row[2], row[126], row[127]], [100, 7, 101, 163, 7]);
+    assert_eq!(rt;
+        [row[0], row[1], row[2], row[126], row[127]],
+        [100, 7, 101, 163, 7]
+    );
     Ok(())
 }
