@@ -35,6 +35,7 @@ fn the_row_comes_back_with_the_elements_first(rt: HostRuntime) -> Result<(), Fai
 fn a_list_holds_65535_elements_at_most(rt: HostRuntime) -> Result<(), Fail> {
     let mut row = vec![in rt.alloc(); 0u8; 65536]?;
     let mut list = RowList::new(row.as_mut_slice());
+    // So many pushes: nothing is indexed.
     for _ in 0..65535 {
         assert!(rt; list.push(7).is_ok());
     }

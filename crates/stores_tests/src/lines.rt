@@ -138,6 +138,7 @@ impl<M: Memory> Watched for SnoopingStore<M> {
 
     fn compare(&self, rt: &impl Abort, report: BusReport, lines: &[Row]) {
         assert_eq!(rt; self.report(), report);
+        // By numbers, as a user asks for a line: nothing is indexed.
         for p in 0..4 {
             for c in 0..16 {
                 assert_eq!(rt; self.line(p, c), Some(line_of(lines, p, c)));

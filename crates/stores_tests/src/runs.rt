@@ -1,5 +1,6 @@
 // Each worked run: its turns, each with its answer by hand. Both stores are held to them. Every run begins with 64 zero words
 // and tasks on 0, 1, 2 and 3. Those that are about lines are in lines.rt too.
+// The runs are alike in form and each is its values, so there is nothing to share but `expect`.
 ghost use Rattle.std.specs.Prelude.{◌≤◌};
 
 use crate::turns::{commit, load, replace, squash, start, store};
