@@ -27,7 +27,8 @@ impl Tasks {
         }
     }
 
-    // The nearest own word at a, of the tasks up to place k.
+    // The nearest own word at a, of the tasks up to place k. k is bounded by the order, so by a clause: a type for it would be no
+    // plainer.
     pub fn nearest_own(&self, k: usize, a: u32) -> Option<u32>
         requires k_in_bounds { k < length self.now.order }
         requires few { length self.now.order ≤ 4 }
@@ -36,7 +37,7 @@ impl Tasks {
         self.nearest(k + 1, a).and_then(|p| self.version(p, a).own)
     }
 
-    // Adds a task on p, the youngest.
+    // Adds a task on p, the youngest; that p has none yet is a clause, for it depends on the order.
     pub fn append(&mut self, p: Processor)
         requires { place_in self.old.order p ≡ None }
         ensures order { self.new.order ≡ self.old.order ++ p ∷ [] }
@@ -54,7 +55,7 @@ impl Tasks {
         self.rows.put(p, a, v);
     }
 
-    // Removes the tasks from place k on, with their versions.
+    // Removes the tasks from place k on, with their versions; k is bounded by a clause, as above.
     pub fn cut(&mut self, k: usize)
         requires { k ≤ length self.old.order }
         ensures order { self.new.order ≡ take k self.old.order }
@@ -66,7 +67,7 @@ impl Tasks {
         self.order.cut(k);
     }
 
-    // Removes the oldest task, p's, with its versions.
+    // Removes the oldest task, p's, with its versions; that there is one is a clause, as above.
     pub fn retire(&mut self, p: Processor)
         requires { 0 < length self.old.order }
         ensures order { self.new.order ≡ drop 1 self.old.order }

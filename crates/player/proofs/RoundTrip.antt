@@ -145,12 +145,3 @@ lines-back at free (t ∷ ts) fit room =
 
 pub text-back : (free : ℕ) (ts : List Turn) → AllByRecursion Small ts → length ts ≤ free → text_read free (text_of ts) ≡ whole_read ts
 text-back free ts fit room = lines-back 0 free ts fit room
-
--- a turn as it shows itself
-pub line-written : (t : Turn) → turn_shown t ++ codes "\n" ≡ line_of t
-line-written (Start p) = simp append_assoc
-line-written (Load p a) = simp append_assoc
-line-written (Store p a w) = simp append_assoc
-line-written (Squash p) = simp append_assoc
-line-written (Commit p) = simp append_assoc
-line-written (Replace p a) = simp append_assoc

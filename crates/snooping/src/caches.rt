@@ -96,7 +96,8 @@ impl Caches {
         }
     }
 
-    // Removes the tasks from place k on: their lines end, and pointers to them.
+    // Removes the tasks from place k on: their lines end, and pointers to them. k is bounded by the order, so by a clause: a type
+    // for it would be no plainer.
     pub fn cut(&mut self, k: usize)
         requires { k ≤ length (processors_of self.old) }
         ensures order { processors_of self.new ≡ take k (processors_of self.old) }
@@ -106,7 +107,7 @@ impl Caches {
         self.trim();
     }
 
-    // Removes the last n tasks.
+    // Removes the last n tasks; n is bounded by a clause, as above.
     pub fn cut_last(&mut self, n: usize)
         requires { n ≤ length (processors_of self.old) }
         ensures order { processors_of self.new ≡ take (length (processors_of self.old) - n) (processors_of self.old) }
@@ -137,7 +138,7 @@ impl Caches {
         mask
     }
 
-    // Adds a task on p, the youngest.
+    // Adds a task on p, the youngest; that p has none yet is a clause, for it depends on the order.
     pub fn append(&mut self, p: Processor)
         requires { place_in (processors_of self.old) p ≡ None }
         ensures order { processors_of self.new ≡ processors_of self.old ++ p ∷ [] }
@@ -146,7 +147,7 @@ impl Caches {
         self.order.append(p);
     }
 
-    // Removes the oldest task, p's: its lines end.
+    // Removes the oldest task, p's: its lines end; that there is one is a clause, as above.
     pub fn retire(&mut self, p: Processor)
         requires { 0 < length (processors_of self.old) }
         ensures order { processors_of self.new ≡ drop 1 (processors_of self.old) }

@@ -160,7 +160,8 @@ impl<M: Memory> VersionStore for SnoopingStore<M> {
 }
 
 // The word at a for the task at place k from its supplier, and who that is: the cache of the processor that has the nearest
-// earlier version, else the memory.
+// earlier version, else the memory. k and a are bounded by the order and the memory, so by clauses: types for them would be no
+// plainer.
 fn supplied<M: Memory>(
     memory: &mut M,
     caches: &Caches,

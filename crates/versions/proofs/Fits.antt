@@ -67,10 +67,6 @@ without_all-value table (q ∷ qs) r b = without_all-value (without table q) qs 
     go false h None = rw (ne_eqb r q (λ e. eqb-false q r h (sym e)))
     go false h (Some j) = refl
 
-pub without_all-push : (table : Table) (qs : List ℕ) (q : ℕ) → without_all table (qs ++ q ∷ []) ≡ without (without_all table qs) q
-without_all-push table [] q = refl
-without_all-push table (r ∷ qs) q = without_all-push (without table r) qs q
-
 -- none of these processors is in the list
 abbrev AllOut : List ℕ → List ℕ → Type 0
 AllOut xs [] = Unit {0}

@@ -5,8 +5,7 @@ use Rattle.std.proofs.lemmas.Bool.{leb-false, eqb-true, eq-eqb, ne_eqb, true≢f
 use Rattle.versions.specs.declared.refusal.Refusal.{Refusal}
 use Rattle.versions.specs.declared.refusal.Refusal.TheVariants.{NoProcessor, TaskActive, NoTask, NoAddress, ClassTaken, NotHead, IsHead, NotHeld}
 use Rattle.versions.specs.declared.turn.Turn.{Turn}
-use Rattle.versions.specs.declared.turn.Turn.TheVariants.{Start, Load, Store, Squash, Commit, Replace}
-use Rattle.versions.specs.Turns.{processor_of}
+use Rattle.versions.specs.declared.turn.Turn.TheVariants.{Start, Load, Squash, Commit, Replace}
 use Rattle.versions.specs.Cuts.{any}
 use Rattle.versions.specs.Orders.{place_in}
 use Rattle.versions.specs.Versions.{is_held}
@@ -22,18 +21,6 @@ refused-turn s t e h = (ap (λ (o : Option Refusal). answer_by o (given s t)) (s
 pub accepted-turn : (s : Plain) (t : Turn) → refusal_of s t ≡ None → (Ok (given s t) ≡ answer_of s t) × (moved s t ≡ state_after s t)
 unfolding answer_of state_after
 accepted-turn s t h = (ap (λ (o : Option Refusal). answer_by o (given s t)) (sym h), ap (λ (o : Option Refusal). unless_refused o s (moved s t)) (sym h))
-
--- a turn of no processor is refused, whatever else it asks
-pub no-processor : (s : Plain) (t : Turn) → leb 4 (processor_of t) ≡ true → (Err NoProcessor ≡ answer_of s t) × (s ≡ state_after s t)
-no-processor s t h = refused-turn s t NoProcessor (first t h)
-  where
-    first : (t : Turn) → leb 4 (processor_of t) ≡ true → refusal_of s t ≡ Some NoProcessor
-    first (Start p) h = rw h
-    first (Load p a) h = rw h
-    first (Store p a w) h = rw h
-    first (Squash p) h = rw h
-    first (Commit p) h = rw h
-    first (Replace p a) h = rw h
 
 -- the answer of a chain of tests agrees with a list of conditions: refused alike, or accepted
 abbrev pub Agrees : Result ℕ Refusal → Option Refusal → Type 0

@@ -61,7 +61,8 @@ impl Order {
         self.processors().iter().position(|q| q.number() == p)
     }
 
-    // The processor at a place.
+    // The processor at a place. What k may be is a clause here and below: it depends on how many tasks there are, which no type of
+    // k could say more plainly.
     pub fn at(&self, k: usize) -> Processor
         requires { k < length self.now }
         ensures { result ≡ slice_index self.now k }
@@ -69,7 +70,7 @@ impl Order {
         self.processors()[k]
     }
 
-    // Adds p as the youngest.
+    // Adds p as the youngest; that p has no task yet is a clause, for it depends on the order.
     pub fn append(&mut self, p: Processor)
         requires { place_in self.old p ≡ None }
         ensures { self.new ≡ self.old ++ p ∷ [] }
@@ -79,7 +80,7 @@ impl Order {
         self.list.push(p);
     }
 
-    // Keeps the k oldest.
+    // Keeps the k oldest; k is bounded by the order, so by a clause.
     pub fn cut(&mut self, k: usize)
         requires { k ≤ length self.old }
         ensures { self.new ≡ take k self.old }
@@ -87,7 +88,7 @@ impl Order {
         self.list.truncate(k);
     }
 
-    // Removes the oldest.
+    // Removes the oldest; that there is one is a clause, since it is so only after a call has found the task.
     pub fn remove_first(&mut self)
         requires { 0 < length self.old }
         ensures { self.new ≡ drop 1 self.old }

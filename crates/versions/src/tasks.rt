@@ -36,7 +36,8 @@ pub trait TaskTable {
         self.held(p, Class::of(a)).is_some_and(|b| b != a)
     }
 
-    // The nearest version of a: of the k oldest tasks, the processor of the last that has an own word there.
+    // The nearest version of a: of the k oldest tasks, the processor of the last that has an own word there. k is bounded by the
+    // order, so by a clause: a type for it would be no plainer.
     fn nearest(&self, k: usize, a: u32) -> Option<Processor>
         requires { k ≤ length (processors self.now) }
         ensures { result ≡ last_that (λ q. is_own (table self.now q a)) (take k (processors self.now)) }
@@ -49,7 +50,7 @@ pub trait TaskTable {
     }
 
     // How many of the tasks from place k on a store to a squashes: the oldest with a mark that no own word of a task
-    // between hides, and all after it.
+    // between hides, and all after it. k is bounded by a clause, as above.
     fn squashed(&self, k: usize, a: u32) -> usize
         requires { k ≤ length (processors self.now) }
         ensures { result ≡ squashed_by (map (λ q. table self.now q a) (drop k (processors self.now))) }

@@ -33,7 +33,8 @@ impl WrittenBack {
     }
 }
 
-// Writes an own word of address a to memory, if there is one.
+// Writes an own word of address a to memory, if there is one. a is bounded by the memory, so by a clause: a type for it would be
+// no plainer.
 pub fn write_own<M: Memory>(memory: &mut M, a: u32, own: Option<u32>) -> WrittenBack
     requires sound { M.Memory.sound memory.old }
     requires a_in_bounds { a < length (M.Memory.words memory.old) }
