@@ -1,5 +1,5 @@
 -- What is written is read back.
-use Rattle.std.proofs.Common.{◌≡◌, ℕ, ◌+◌, ◌-◌, ◌^◌, ◌<◌, ◌≤◌, Bool, true, false, cond, not, ◌&&◌, eqb, ltb, leb, List, [], ◌∷◌, ◌++◌, map, length, get_or, Some, None, Ok, Err, codes, decimal, Option, Result, refl, ap, ◌∙◌, ⊎_elim, arith}
+use Rattle.std.proofs.Common.{◌≡◌, ℕ, ◌+◌, ◌-◌, ◌^◌, ◌<◌, ◌≤◌, Bool, true, false, cond, not, ◌&&◌, eqb, ltb, leb, List, [], ◌∷◌, ◌++◌, map, length, get_or, Some, None, Ok, Err, decimal, Option, Result, refl, ap, ◌∙◌, ⊎_elim, arith}
 use Rattle.std.specs.List.{flat_map, AllByRecursion}
 use Rattle.std.specs.Str.Parse.{digits_value}
 use Rattle.std.specs.Char.{is_ascii_digit}
@@ -8,7 +8,6 @@ use Rattle.std.proofs.lemmas.Fmt.{decimal_digit, decimal_nonempty, first_decimal
 use Rattle.std.proofs.lemmas.List.{append_assoc, append-nil}
 use Rattle.std.proofs.lemmas.Bool.{and_parts, cond-true, cond-false, eq-eqb, ne_eqb, leb-true, lt-ltb, cases_lt}
 use Rattle.versions.specs.declared.turn.Turn.{Turn}
-use Rattle.versions.specs.Turns.{turn_text as turn_shown}
 use Rattle.versions.specs.declared.turn.Turn.TheVariants.{Start, Load, Store, Squash, Commit, Replace}
 use Rattle.player.specs.declared.fault.TextWhy.{TextWhy}
 use Rattle.player.specs.declared.fault.TextWhy.TheVariants as why
@@ -20,7 +19,7 @@ use Rattle.player.specs.Left.{after}
 use Rattle.player.specs.Splits.{line_end, space, split, begun}
 use Rattle.player.specs.Text.{whole_read, turn_before, line_read, lines_read, text_read}
 use Rattle.player.specs.Verbs.{verb_text, verb_named, field_count, turn_with}
-use Rattle.player.specs.Writing.{verb_of, fields_in, field_text, turn_text, line_of, text_of, Small}
+use Rattle.player.specs.Writing.{verb_of, fields_in, field_text, turn_text, text_of, Small}
 pub use Rattle.player.proofs.Numbering.{own}
 use Rattle.player.proofs.Reading.{lines_cons}
 
