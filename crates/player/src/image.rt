@@ -1,6 +1,6 @@
 // Images: what a memory holds before the first turn. An image is numbers of 32 bits, lowest byte first: how many pairs
 // there are, the pairs of offset and length, and the words that they take.
-ghost use Rattle.std.specs.Prelude.{◌≡◌, ℕ, ◌+◌, ◌*◌, ◌<◌, ◌≤◌, true, ◌∷◌, length, drop, is_ok, IfOk, Ok, MatchOption, slice_index};
+ghost use Rattle.std.specs.Prelude.{◌≡◌, ℕ, ◌+◌, ◌*◌, ◌<◌, ◌≤◌, true, false, ◌∷◌, length, drop, is_ok, IfOk, Ok, MatchOption, slice_index};
 ghost use Rattle.std.specs.Iterator.{YieldsFirst, item_count};
 ghost use Rattle.std.proofs.Math.Seq.{paste};
 ghost use Rattle.memory.specs.Bytes.{words_of};
@@ -25,6 +25,7 @@ pub fn load_image<M: Memory>(memory: &mut M, image: &[u8]) -> Result<(), ImageFa
     ensures after { M.Memory.words memory.new ≡ loaded_words (M.Memory.words memory.old) image.now }
     ensures laid { is_ok result ≡ true → HoldsPairs (pairs_of image.now) (image_words image.now) (M.Memory.words memory.new) }
     ensures outside { (a : ℕ) → OutsidePairs a (pairs_of image.now) → slice_index (M.Memory.words memory.new) a ≡ slice_index (M.Memory.words memory.old) a }
+    ensures refused { is_ok result ≡ false → memory.new ≡ memory.old }
     ensures beside { M.Memory.spare memory.new ≡ M.Memory.spare memory.old }
     ensures kept { M.Memory.sound memory.new }
 {

@@ -18,7 +18,7 @@ pub use fault::{Fault, ImageFault, ImageWhy, Layer, ListFault, PlayerFault, Text
 pub use image::load_image;
 pub use list::RowList;
 pub use loading::Loading;
-pub use output::{listing, words_of};
+pub use output::{Played, listing, words_of};
 pub use play::{Input, Lists, play_both, play_on, play_text};
 pub use text::read_turns;
 pub use write::{write_turn, write_turns};

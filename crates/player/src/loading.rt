@@ -1,6 +1,6 @@
 // A store that is being loaded: a memory that takes images, any number or none, and no turns. Opening moves it into a
 // version store, which takes turns and no images; closing that store hands the memory back.
-ghost use Rattle.std.specs.Prelude.{◌≡◌, ℕ, true, length, is_ok, slice_index};
+ghost use Rattle.std.specs.Prelude.{◌≡◌, ℕ, true, false, length, is_ok, slice_index};
 ghost use Rattle.versions.specs.Plain.{opened};
 ghost use Rattle.player.specs.Image.{pairs_of, image_words, load_answer, loaded_words, HoldsPairs, OutsidePairs};
 
@@ -30,6 +30,7 @@ impl<M: Memory> Loading<M> {
         ensures after { M.Memory.words self.new.memory ≡ loaded_words (M.Memory.words self.old.memory) image.now }
         ensures laid { is_ok result ≡ true → HoldsPairs (pairs_of image.now) (image_words image.now) (M.Memory.words self.new.memory) }
         ensures outside { (a : ℕ) → OutsidePairs a (pairs_of image.now) → slice_index (M.Memory.words self.new.memory) a ≡ slice_index (M.Memory.words self.old.memory) a }
+        ensures refused { is_ok result ≡ false → self.new.memory ≡ self.old.memory }
         ensures beside { M.Memory.spare self.new.memory ≡ M.Memory.spare self.old.memory }
         ensures kept { M.Memory.sound self.new.memory }
     {

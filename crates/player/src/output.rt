@@ -1,14 +1,74 @@
 // The listing of what was played: a line for each turn with its number from 1 and its answer, the number of active tasks,
 // and a line for each word of the memory that is not 0. After a fault there is one line, the fault's.
-ghost use Rattle.std.specs.Prelude.{◌≡◌, ◌++◌, IfOk, string_bytes};
-ghost use Rattle.player.specs.Listings.{answer_lines, word_lines, tasks_line, listing_of};
+ghost use Rattle.std.specs.Prelude.{◌≡◌, IfOk, Some, string_bytes};
+ghost use Rattle.player.specs.Listings.{answer_lines, word_lines, listing_of};
 
 use crate::fault::PlayerFault;
 use memory::Memory;
 use std::alloc::{AllocError, Global};
-use std::fmt::Write;
+use std::fmt;
 use stores::Answer;
 
+// What was played: the answers, the number of active tasks or the fault, and the memory's words. It shows itself as its listing.
+#[derive(Clone, Copy)]
+pub struct Played<'a> {
+    pub answers: &'a [Answer],
+    pub outcome: Result<u32, PlayerFault>,
+    pub words: &'a [u32],
+}
+
+impl fmt::Display for Played<'_> {
+    ghost output = { λ l. Some (listing_of l.answers.now l.outcome l.words.now) };
+
+    fn fmt<W: fmt::Write>(&self, f: &mut fmt::Formatter<W>) -> fmt::Result {
+        match self.outcome {
+            Ok(tasks) => {
+                AnswerLines(self.answers).fmt(f)?;
+                writeln!(f, "tasks {tasks}")?;
+                WordLines(self.words).fmt(f)
+            }
+            Err(fault) => writeln!(f, "{fault}"),
+        }
+    }
+}
+
+// A line for each turn: its number and its answer.
+#[derive(Clone, Copy)]
+struct AnswerLines<'a>(&'a [Answer]);
+
+impl fmt::Display for AnswerLines<'_> {
+    ghost output = { λ l. Some (answer_lines l.0.now) };
+
+    fn fmt<W: fmt::Write>(&self, f: &mut fmt::Formatter<W>) -> fmt::Result {
+        for (i, answer) in self.0.iter().enumerate() {
+            let number = i + 1;
+            match answer {
+                Ok(n) => writeln!(f, "{number} ok {n}")?,
+                Err(refusal) => writeln!(f, "{number} {refusal}")?,
+            }
+        }
+        Ok(())
+    }
+}
+
+// A line for each word that is not 0: its address and the word.
+#[derive(Clone, Copy)]
+struct WordLines<'a>(&'a [u32]);
+
+impl fmt::Display for WordLines<'_> {
+    ghost output = { λ l. Some (word_lines l.0.now) };
+
+    fn fmt<W: fmt::Write>(&self, f: &mut fmt::Formatter<W>) -> fmt::Result {
+        for (a, word) in self.0.iter().enumerate() {
+            if *word != 0 {
+                writeln!(f, "at {a} {word}")?;
+            }
+        }
+        Ok(())
+    }
+}
+
+// The listing of what was played, as one text.
 pub fn listing(
     heap: Global,
     answers: &[Answer],
@@ -17,42 +77,12 @@ pub fn listing(
 ) -> Result<String, AllocError>
     ensures { IfOk result (λ s. string_bytes s ≡ listing_of answers.now outcome words.now) }
 {
-    let mut text = String::new(heap);
-    match outcome {
-        Ok(tasks) => {
-            write_answers(&mut text, answers)?;
-            writeln!(text, "tasks {tasks}")?;
-            write_words(&mut text, words)?;
-        }
-        Err(fault) => writeln!(text, "{fault}")?,
-    }
-    Ok(text)
-}
-
-// A line for each turn: its number and its answer.
-fn write_answers(text: &mut String, answers: &[Answer]) -> Result<(), AllocError>
-    ensures { IfOk result (λ _. string_bytes text.new ≡ string_bytes text.old ++ answer_lines answers.now) }
-{
-    for (i, answer) in answers.iter().enumerate() {
-        let number = i + 1;
-        match answer {
-            Ok(n) => writeln!(text, "{number} ok {n}")?,
-            Err(refusal) => writeln!(text, "{number} {refusal}")?,
-        }
-    }
-    Ok(())
-}
-
-// A line for each word that is not 0: its address and the word.
-fn write_words(text: &mut String, words: &[u32]) -> Result<(), AllocError>
-    ensures { IfOk result (λ _. string_bytes text.new ≡ string_bytes text.old ++ word_lines words.now) }
-{
-    for (a, word) in words.iter().enumerate() {
-        if *word != 0 {
-            writeln!(text, "at {a} {word}")?;
-        }
-    }
-    Ok(())
+    let played = Played {
+        answers,
+        outcome,
+        words,
+    };
+    played.to_string(heap)
 }
 
 // The words of a memory, in their order. A memory shows no slice: its words are asked by address.

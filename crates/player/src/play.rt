@@ -1,8 +1,11 @@
 // Playing a text of turns over a memory that an image fills: image first, then the whole text, then turn by turn.
-ghost use Rattle.std.specs.Prelude.{◌≡◌, length, take, drop};
+ghost use Rattle.std.specs.Prelude.{◌≡◌, length, take, drop, Err};
 ghost use Rattle.versions.specs.Plain.{active_tasks, answers_of, state_after_all};
 ghost use Rattle.versions.specs.Sequential.{ReadsOn, paired};
 ghost use Rattle.versions.specs.Taken.{ShowsAll};
+ghost use Rattle.player.specs.declared.fault.PlayerFault.TheVariants.{Image as AnImage};
+ghost use Rattle.player.specs.Faults.{ImageFault};
+ghost use Rattle.player.specs.Listings.{listing_of};
 ghost use Rattle.player.specs.Lists.{content, free};
 ghost use Rattle.player.specs.Scripts.{Gained, PlayedOver, places_answer, script_of, told};
 
@@ -36,6 +39,7 @@ pub fn play_on<S: VersionStore>(
 ) -> (S::Below, Result<u32, PlayerFault>)
     requires { S.Below.Memory.sound memory }
     ensures performed { PlayedOver (S.Below.Memory.words memory) input.entry lists.old lists.new result.1 (S.Below.Memory.words result.0) }
+    ensures refused { (fault : ImageFault) → result.1 ≡ Err (AnImage fault) → result.0 ≡ memory }
     ensures beside { S.Below.Memory.spare result.0 ≡ S.Below.Memory.spare memory }
     ensures kept { S.Below.Memory.sound result.0 }
 {
@@ -62,7 +66,8 @@ pub fn play_both<M: Memory, N: Memory>(
     requires other_sound { N.Memory.sound other }
     ensures one { PlayedOver (M.Memory.words one) input.entry snooped.old snooped.new result.0.1 (M.Memory.words result.0.0) }
     ensures other { PlayedOver (N.Memory.words other) input.entry buffered.old buffered.new result.1.1 (N.Memory.words result.1.0) }
-    ensures alike { M.Memory.words one ≡ N.Memory.words other → free snooped.old.turns ≡ free buffered.old.turns → free snooped.old.answers ≡ free buffered.old.answers → content snooped.old.answers ≡ content buffered.old.answers → (result.0.1 ≡ result.1.1) × (content snooped.new.answers ≡ content buffered.new.answers) × (M.Memory.words result.0.0 ≡ N.Memory.words result.1.0) }
+    ensures alike { M.Memory.words one ≡ N.Memory.words other → free snooped.old.turns ≡ free buffered.old.turns → free snooped.old.answers ≡ free buffered.old.answers → content snooped.old.answers ≡ content buffered.old.answers → (result.0.1 ≡ result.1.1) × (content snooped.new.answers ≡ content buffered.new.answers) × (M.Memory.words result.0.0 ≡ N.Memory.words result.1.0) × (listing_of (content snooped.new.answers) result.0.1 (M.Memory.words result.0.0) ≡ listing_of (content buffered.new.answers) result.1.1 (N.Memory.words result.1.0)) }
+    ensures refused { ((fault : ImageFault) → result.0.1 ≡ Err (AnImage fault) → result.0.0 ≡ one) × ((fault : ImageFault) → result.1.1 ≡ Err (AnImage fault) → result.1.0 ≡ other) }
     ensures beside { (M.Memory.spare result.0.0 ≡ M.Memory.spare one) × (N.Memory.spare result.1.0 ≡ N.Memory.spare other) }
     ensures kept { M.Memory.sound result.0.0 × N.Memory.sound result.1.0 }
 {

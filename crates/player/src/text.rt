@@ -97,10 +97,9 @@ fn read_turn(first: Token, tokens: &mut Tokens) -> Result<Turn, TextWhy>
     ensures line { OnOk result (after line_end (text_left tokens.old) ≡ Some (text_left tokens.new)) }
     ensures place { end_of tokens.new ≡ end_of tokens.old }
 {
-    let Token::Verb(word) = first else {
+    let Some(verb) = first.named() else {
         return Err(TextWhy::Verb);
     };
-    let verb = Verb::try_from(word)?;
     let turn = read_fields(verb, tokens)?;
     read_end(tokens)?;
     Ok(turn)

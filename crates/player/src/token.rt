@@ -1,6 +1,8 @@
 // Tokens: the verbs, numbers and line ends of a text of turns, each a part of the text with its place.
 ghost use Rattle.std.specs.Prelude.{◌≡◌, ◌+◌, ◌^◌, ◌<◌, ◌≤◌, length};
 
+use crate::verb::Verb;
+
 #[derive(Clone, Copy)]
 pub enum Token<'a> {
     // What a line begins with, up to a space, a line end or the end of the text.
@@ -8,6 +10,20 @@ pub enum Token<'a> {
     // What follows a space, up to the next space, a line end or the end of the text.
     Number(&'a [u8]),
     LineEnd,
+}
+
+impl Token<'_> {
+    ghost use Rattle.player.specs.Tokens.{verb_seen, word_seen};
+
+    // The verb that the token names, if it names one.
+    pub fn named(self) -> Option<Verb>
+        ensures { result ≡ verb_seen (word_seen self.entry) }
+    {
+        match self {
+            Token::Verb(word) => Verb::try_from(word).ok(),
+            _ => None,
+        }
+    }
 }
 
 #[derive(Clone, Copy)]

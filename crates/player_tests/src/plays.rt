@@ -1,8 +1,8 @@
 // Images and texts that are played on both stores, and their listings.
 ghost use Rattle.std.specs.Prelude.{◌≤◌};
 
-use memory::WordMemory;
-use player::{Input, Lists, RowList, listing, play_on, words_of};
+use memory::{ByteMemory, WordMemory};
+use player::{Input, Lists, Played, RowList, listing, play_both, play_on, words_of};
 use std::process::Abort;
 use std::test::*;
 use stores::{CentralBuffer, SnoopingStore, Turn, VersionStore};
@@ -32,7 +32,12 @@ where
     };
     let (mut memory, outcome) = play_on::<S>(memory, input, &mut lists);
     let words = words_of(rt.alloc(), &mut memory)?;
-    let told = listing(rt.alloc(), lists.answers.items(), outcome, words.as_slice())?;
+    let played = Played {
+        answers: lists.answers.items(),
+        outcome,
+        words: words.as_slice(),
+    };
+    let told = played.to_string(rt.alloc())?;
     assert_eq!(rt; told.as_str(), lines, "{}", text);
     Ok(())
 }
@@ -99,4 +104,68 @@ fn a_full_list_of_answers_is_told_at_its_turn(rt: HostRuntime) -> Result<(), Fai
     let text = "start 0\nstart 1\nstart 2\n";
     plays::<2>(&rt, &[0; 4], text, "fault list 16 2\n")?;
     plays::<0>(&rt, &[0; 4], text, "fault list 16 0\n")
+}
+
+// Both stores in one call: the snooping store over words, the central buffer over bytes.
+fn both_play(
+    rt: &(impl Abort + AllocGlobal),
+    image: &[u8],
+    text: &str,
+    lines: &str,
+) -> Result<(), Fail> {
+    let mut turns = [Turn::Start { p: 0 }; 8];
+    let mut answers = [Ok(0); 8];
+    let mut snooped = Lists {
+        turns: RowList::new(&mut turns),
+        answers: RowList::new(&mut answers),
+    };
+    let mut turns = [Turn::Start { p: 0 }; 8];
+    let mut answers = [Ok(0); 8];
+    let mut buffered = Lists {
+        turns: RowList::new(&mut turns),
+        answers: RowList::new(&mut answers),
+    };
+    let input = Input {
+        image,
+        text: text.as_bytes(),
+    };
+    let mut words = [0; 64];
+    let mut bytes = [0; 256];
+    let ((mut one, snooping), (mut other, central)) = play_both(
+        WordMemory::open(&mut words),
+        ByteMemory::open(&mut bytes),
+        input,
+        &mut snooped,
+        &mut buffered,
+    );
+    let end = words_of(rt.alloc(), &mut one)?;
+    let told = listing(
+        rt.alloc(),
+        snooped.answers.items(),
+        snooping,
+        end.as_slice(),
+    )?;
+    assert_eq!(rt; told.as_str(), lines, "{}", text);
+    let end = words_of(rt.alloc(), &mut other)?;
+    let told = listing(
+        rt.alloc(),
+        buffered.answers.items(),
+        central,
+        end.as_slice(),
+    )?;
+    assert_eq!(rt; told.as_str(), lines, "{}", text);
+    Ok(())
+}
+
+#[test]
+fn both_stores_give_one_listing(rt: HostRuntime) -> Result<(), Fail> {
+    let image = [1, 0, 0, 0, 5, 0, 0, 0, 1, 0, 0, 0, 8, 0, 0, 0];
+    both_play(
+        &rt,
+        &image,
+        "start 2\nstart 0\nload 0 5\nstore 2 5 70\nload 0 5\nreplace 2 5\ncommit 0\ncommit 2\n",
+        "1 ok 0\n2 ok 1\n3 ok 8\n4 ok 1\n5 no 3\n6 ok 1\n7 no 3\n8 ok 0\ntasks 0\nat 5 70\n",
+    )?;
+    both_play(&rt, &image, "start 0\nstore 0 5\n", "fault text 14 8\n")?;
+    both_play(&rt, &image[..12], "start 0\n", "fault image 9 12\n")
 }
