@@ -1,6 +1,6 @@
 // Byte memory: word a lies in bytes 4a to 4a+3 of a row that the caller lends, lowest byte first. One to three
 // bytes at the row's end may belong to no word, and are never touched.
-ghost use Rattle.std.specs.Prelude.{◌≡◌, ℕ, ◌/◌, List, length, Ok, slice_get};
+ghost use Rattle.std.specs.Prelude.{◌≡◌, ℕ, ◌/◌, false, List, length, is_ok, Ok, slice_get};
 ghost use Rattle.memory.specs.Words.{read_answer, write_answer, written_words, open_answer, MemorySize};
 ghost use Rattle.memory.specs.Bytes.{words_of, written_bytes, spare_bytes, words_of-sized};
 
@@ -66,6 +66,7 @@ impl Memory for ByteMemory<'_> {
     fn read(&mut self, a: u32) -> Result<u32, MemoryError>
         ensures answer { result ≡ read_answer (words_of self.old.row.now) a }
         ensures row { self.new.row.now ≡ self.old.row.now }
+        ensures refused { is_ok result ≡ false → self.new ≡ self.old }
     {
         self.word(a).ok_or(MemoryError::Address)
     }
@@ -75,6 +76,7 @@ impl Memory for ByteMemory<'_> {
     fn write(&mut self, a: u32, w: u32) -> Result<(), MemoryError>
         ensures answer { result ≡ write_answer (words_of self.old.row.now) a }
         ensures row { self.new.row.now ≡ written_bytes self.old.row.now a w }
+        ensures refused { is_ok result ≡ false → self.new ≡ self.old }
         ensures words { words_of self.new.row.now ≡ written_words (words_of self.old.row.now) a w }
         ensures beside { spare_bytes self.new.row.now ≡ spare_bytes self.old.row.now }
     {

@@ -1,6 +1,6 @@
 // The one interface of all memories. Whatever is built above is proved once, against these contracts, and holds
 // for every memory.
-ghost use Rattle.std.specs.Prelude.{◌≡◌, ℕ, List, length};
+ghost use Rattle.std.specs.Prelude.{◌≡◌, ℕ, false, List, length, is_ok};
 ghost use Rattle.memory.specs.Words.{read_answer, write_answer, written_words, open_answer, MemorySize};
 
 use crate::error::MemoryError;
@@ -23,11 +23,12 @@ pub trait Memory {
         requires { sound self.now }
         ensures { result ≡ length (words self.now) };
 
-    // Word a, or a refusal where there is none. No word changes.
+    // Word a, or a refusal where there is none. No word changes, and where it is refused nothing does.
     fn read(&mut self, a: u32) -> Result<u32, MemoryError>
         requires { sound self.old }
         ensures answer { result ≡ read_answer (words self.old) a }
         ensures after { words self.new ≡ words self.old }
+        ensures refused { is_ok result ≡ false → self.new ≡ self.old }
         ensures beside { spare self.new ≡ spare self.old }
         ensures kept { sound self.new };
 
@@ -36,6 +37,7 @@ pub trait Memory {
         requires { sound self.old }
         ensures answer { result ≡ write_answer (words self.old) a }
         ensures after { words self.new ≡ written_words (words self.old) a w }
+        ensures refused { is_ok result ≡ false → self.new ≡ self.old }
         ensures beside { spare self.new ≡ spare self.old }
         ensures kept { sound self.new };
 

@@ -1,7 +1,7 @@
 // The second-level cache: 64 lines over any other memory, which it holds. Address a has line a mod 64. A word that
 // was written stays in its line, and goes below only when another address needs the line or when the cache is taken
 // apart.
-ghost use Rattle.std.specs.Prelude.{◌≡◌, ℕ, ◌%◌, ◌<◌, false, List, length, is_some, IfSome, Ok, OnSome};
+ghost use Rattle.std.specs.Prelude.{◌≡◌, ℕ, ◌%◌, ◌<◌, false, List, length, is_some, is_ok, IfSome, Ok, OnSome};
 ghost use Rattle.memory.specs.Words.{read_answer, write_answer, written_words};
 ghost use Rattle.memory.specs.Second.{word_in, hit, counted, empty_over, given_up, freed, with_line, after_read, after_write, cached_of, SoundCache, counted-sized};
 
@@ -53,7 +53,7 @@ impl<M: Memory> SecondLevel<M> {
         requires { M.Memory.sound below }
         ensures cached { cached_of M.Memory.words result ≡ empty_over (M.Memory.words below) }
         ensures words { counted (cached_of M.Memory.words result) ≡ M.Memory.words below }
-        ensures beside { M.Memory.spare result.below ≡ M.Memory.spare below }
+        ensures below { result.below ≡ below }
         ensures kept { SoundCache M.Memory.words M.Memory.sound result }
     {
         SecondLevel {
@@ -144,6 +144,7 @@ impl<M: Memory> SecondLevel<M> {
         requires missed { hit (cached_of M.Memory.words self.old) a ≡ false }
         ensures answer { result ≡ read_answer (counted (cached_of M.Memory.words self.old)) a }
         ensures after { counted (cached_of M.Memory.words self.new) ≡ counted (cached_of M.Memory.words self.old) }
+        ensures refused { is_ok result ≡ false → self.new ≡ self.old }
         ensures beside { M.Memory.spare self.new.below ≡ M.Memory.spare self.old.below }
         ensures kept { SoundCache M.Memory.words M.Memory.sound self.new }
         ensures cached { cached_of M.Memory.words self.new ≡ after_read (cached_of M.Memory.words self.old) a }
@@ -172,6 +173,7 @@ impl<M: Memory> Memory for SecondLevel<M> {
         requires { SoundCache M.Memory.words M.Memory.sound self.old }
         ensures answer { result ≡ read_answer (counted (cached_of M.Memory.words self.old)) a }
         ensures after { counted (cached_of M.Memory.words self.new) ≡ counted (cached_of M.Memory.words self.old) }
+        ensures refused { is_ok result ≡ false → self.new ≡ self.old }
         ensures beside { M.Memory.spare self.new.below ≡ M.Memory.spare self.old.below }
         ensures kept { SoundCache M.Memory.words M.Memory.sound self.new }
         ensures cached { cached_of M.Memory.words self.new ≡ after_read (cached_of M.Memory.words self.old) a }
@@ -188,6 +190,7 @@ impl<M: Memory> Memory for SecondLevel<M> {
         requires { SoundCache M.Memory.words M.Memory.sound self.old }
         ensures answer { result ≡ write_answer (counted (cached_of M.Memory.words self.old)) a }
         ensures after { counted (cached_of M.Memory.words self.new) ≡ written_words (counted (cached_of M.Memory.words self.old)) a w }
+        ensures refused { is_ok result ≡ false → self.new ≡ self.old }
         ensures beside { M.Memory.spare self.new.below ≡ M.Memory.spare self.old.below }
         ensures kept { SoundCache M.Memory.words M.Memory.sound self.new }
         ensures cached { cached_of M.Memory.words self.new ≡ after_write (cached_of M.Memory.words self.old) a w }

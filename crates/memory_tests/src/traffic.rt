@@ -36,13 +36,15 @@ impl<M: Memory> Memory for Watched<M> {
     }
 
     fn read(&mut self, a: u32) -> Result<u32, MemoryError> {
+        let word = self.below.read(a)?;
         self.reads = self.reads.saturating_add(1);
-        self.below.read(a)
+        Ok(word)
     }
 
     fn write(&mut self, a: u32, w: u32) -> Result<(), MemoryError> {
+        self.below.write(a, w)?;
         self.writes = self.writes.saturating_add(1);
-        self.below.write(a, w)
+        Ok(())
     }
 
     ghost sized = { λ m h. M.Memory.sized m.below h };

@@ -1,5 +1,5 @@
 -- What a list of commands shows of a store: its plain state, and its bus if it has one.
-use Rattle.std.specs.Prelude.{ℕ, cond, ◌&&◌, List, [], ◌∷◌, ◌++◌, length, drop, Some, None, Option, Ok, Err, Result, ◌==◌, nat_le, nat_lt}
+use Rattle.std.specs.Prelude.{ℕ, cond, List, [], ◌∷◌, ◌++◌, length, drop, Some, None, Option, Ok, Err, Result, ◌==◌}
 use Rattle.std.specs.Option.{option_map}
 use Rattle.versions.specs.declared.turn.Turn.{Turn}
 use Rattle.versions.specs.Plain.{Plain, opened, memory_words, active_tasks, answer_of, state_after, word_of}
@@ -57,14 +57,11 @@ abbrev pub seen_after_all : Seen → List Command → Seen
 seen_after_all m [] = m
 seen_after_all m (c ∷ cs) = seen_after_all (seen_after m (asked_of c)) cs
 
--- a run from the opening: refused where the words can't be opened, or where there are fewer places than commands
+-- a store as it is opened
 abbrev pub seen_at : Option BusReport → List ℕ → Seen
 seen_at bus ws = record { plain = opened ws; bus = bus }
 
-abbrev pub run_answer : ℕ → ℕ → ℕ → ℕ
-run_answer n commands places = cond (nat_lt 0 n && nat_le n 4096) (cond (nat_le commands places) 0 16) 17
-
--- the replies after it, and the words: a refused run leaves both as they were
+-- the replies after a run of which this is told, and the words: a refused run leaves both as they were
 abbrev pub replies_after : ℕ → Seen → List Command → List Reply → List Reply
 replies_after told m cs rs = cond (told == 0) (replies_to m cs ++ drop (length cs) rs) rs
 

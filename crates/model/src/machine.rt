@@ -1,5 +1,5 @@
 // A store that carries out commands: what it shows of itself, and that only a turn changes it.
-ghost use Rattle.std.specs.Prelude.{◌≡◌, Option, Some, None, refl};
+ghost use Rattle.std.specs.Prelude.{◌≡◌, false, is_ok, Option, Some, None, refl};
 ghost use Rattle.std.proofs.Common.{ap};
 ghost use Rattle.versions.specs.declared.turn.Turn.{Turn};
 ghost use Rattle.versions.specs.Plain.{word_of};
@@ -24,7 +24,9 @@ pub trait Machine: VersionStore {
         requires { Self.sound self.old }
         ensures answer { result ≡ word_of (Self.plain self.old) a }
         ensures after { Self.plain self.new ≡ Self.plain self.old }
+        ensures refused { is_ok result ≡ false → self.new ≡ self.old }
         ensures bus { bus self.new ≡ bus self.old }
+        ensures beside { Self.spare self.new ≡ Self.spare self.old }
         ensures kept { Self.sound self.new };
 
     // Line c of processor p, of a store with lines.
@@ -41,6 +43,7 @@ pub trait Machine: VersionStore {
         requires { Self.sound self.old }
         ensures reply { result ≡ reply_to (seen_of Self.plain bus self.old) (asked_of command) }
         ensures after { seen_of Self.plain bus self.new ≡ seen_after (seen_of Self.plain bus self.old) (asked_of command) }
+        ensures beside { Self.spare self.new ≡ Self.spare self.old }
         ensures kept { Self.sound self.new }
     {
         match Asked::try_from(command) {

@@ -3,7 +3,7 @@ ghost use Rattle.std.specs.Prelude.{◌≡◌, ◌≤◌, ◌++◌, length, drop
 ghost use Rattle.memory.specs.Words.{MemorySize};
 ghost use Rattle.versions.specs.Plain.{memory_words};
 ghost use Rattle.snooping.specs.Report.{quiet};
-ghost use Rattle.model.specs.Machines.{seen_of, replies_to, seen_after_all, seen_at, run_answer, replies_after, words_after};
+ghost use Rattle.model.specs.Machines.{seen_of, replies_to, seen_after_all, seen_at, replies_after, words_after};
 ghost use Rattle.model.specs.Refusals.{run_outcome, number_told};
 
 use crate::command::{Command, Reply};
@@ -83,7 +83,7 @@ pub extern "C" fn model_snooping(
     commands: &[Command],
     replies: &mut [Reply],
 ) -> u32
-    ensures told { result ≡ run_answer (length words.old) (length commands.now) (length replies.old) }
+    ensures told { result ≡ number_told (run_outcome (length words.old) (length commands.now) (length replies.old)) }
     ensures replies { replies.new ≡ replies_after result (seen_at (Some quiet) words.old) commands.now replies.old }
     ensures words { words.new ≡ words_after result (seen_at (Some quiet) words.old) commands.now words.old }
 {
@@ -98,7 +98,7 @@ pub extern "C" fn model_central(
     commands: &[Command],
     replies: &mut [Reply],
 ) -> u32
-    ensures told { result ≡ run_answer (length words.old) (length commands.now) (length replies.old) }
+    ensures told { result ≡ number_told (run_outcome (length words.old) (length commands.now) (length replies.old)) }
     ensures replies { replies.new ≡ replies_after result (seen_at None words.old) commands.now replies.old }
     ensures words { words.new ≡ words_after result (seen_at None words.old) commands.now words.old }
 {

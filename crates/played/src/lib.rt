@@ -7,7 +7,7 @@ ghost use Rattle.player.specs.Listings.{listing_played};
 
 use files::read_start;
 use player::{Input, Lists, MOST_BYTES, MOST_TURNS, RowList, listing, play_on, words_of};
-use std::alloc::Global;
+use std::alloc::{AllocError, Global};
 use std::fs::Files;
 use stores::{Turn, VersionStore};
 
@@ -28,15 +28,15 @@ where
         image: image.as_slice(),
         text: text.as_slice(),
     };
-    listing_of::<S>(rt.alloc(), memory, input)
+    Ok(listing_of::<S>(rt.alloc(), memory, input)?)
 }
 
-// The listing of a text of turns that is played over an image.
+// The listing of a text of turns that is played over an image. The memory is let go with its words, which the listing has shown.
 pub fn listing_of<S: VersionStore>(
     heap: Global,
     memory: S::Below,
     input: Input,
-) -> anyhow::Result<String>
+) -> Result<String, AllocError>
 where
     S::Below: Drop,
     requires { S.Below.Memory.sound memory }
@@ -50,5 +50,6 @@ where
     };
     let (mut memory, outcome) = play_on::<S>(memory, input, &mut lists);
     let words = words_of(heap, &mut memory)?;
-    Ok(listing(heap, lists.answers.items(), outcome, words.as_slice())?)
+    let text = listing(heap, lists.answers.items(), outcome, words.as_slice())?;
+    Ok(text)
 }

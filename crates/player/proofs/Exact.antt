@@ -8,6 +8,7 @@ use Rattle.std.proofs.lemmas.Slice.Eq.{bytes_eq-Decides}
 use Rattle.std.proofs.lemmas.List.{append_assoc, append-nil, length-append, take_at}
 use Rattle.std.proofs.lemmas.Bool.{and_parts, not-true, eqb-true, eqb-false, ltb-true}
 use Rattle.versions.specs.declared.turn.Turn.{Turn}
+use Rattle.versions.specs.Turns.{turn_text}
 use Rattle.player.specs.declared.fault.ListFault.TheVariants.{Full}
 use Rattle.player.specs.declared.fault.TextWhy.{TextWhy}
 use Rattle.player.specs.declared.fault.TextWhy.TheVariants as why
@@ -20,10 +21,10 @@ use Rattle.player.specs.Left.{before, after, further}
 use Rattle.player.specs.Splits.{line_end, space, split, begun}
 use Rattle.player.specs.Text.{Reading, refused_at, turn_before, line_read, last_read, lines_read, text_read}
 use Rattle.player.specs.Verbs.{verbs, verb_text, named_in, verb_named, field_count, turn_with}
-use Rattle.player.specs.Writing.{field_text, turn_text, line_of, text_of}
+use Rattle.player.specs.Writing.{line_of, text_of}
 use Rattle.player.specs.Canonical.{Exact}
 use Rattle.player.proofs.Following.{split-first}
-use Rattle.player.proofs.RoundTrip.{own}
+use Rattle.player.proofs.RoundTrip.{own, field_text, by-fields}
 
 -- pieces put together again
 abbrev join : ℕ → List (List ℕ) → List ℕ
@@ -117,12 +118,12 @@ list-of-three [] long = absurd (omega arith)
 list-of-three (x ∷ fs) long = ap (λ (l : List ℕ). x ∷ l) (list-of-two fs (omega arith))
 
 turn-text : (v : Verb) (fs : List ℕ) → length fs ≡ field_count v → turn_text (turn_with v fs) ≡ verb_text v ++ flat_map field_text fs
-turn-text verb.Start fs long = ap (λ (l : List ℕ). verb_text verb.Start ++ flat_map field_text l) (list-of-one fs long)
-turn-text verb.Load fs long = ap (λ (l : List ℕ). verb_text verb.Load ++ flat_map field_text l) (list-of-two fs long)
-turn-text verb.Store fs long = ap (λ (l : List ℕ). verb_text verb.Store ++ flat_map field_text l) (list-of-three fs long)
-turn-text verb.Squash fs long = ap (λ (l : List ℕ). verb_text verb.Squash ++ flat_map field_text l) (list-of-one fs long)
-turn-text verb.Commit fs long = ap (λ (l : List ℕ). verb_text verb.Commit ++ flat_map field_text l) (list-of-one fs long)
-turn-text verb.Replace fs long = ap (λ (l : List ℕ). verb_text verb.Replace ++ flat_map field_text l) (list-of-two fs long)
+turn-text verb.Start fs long = by-fields (turn_with verb.Start fs) ∙ ap (λ (l : List ℕ). verb_text verb.Start ++ flat_map field_text l) (list-of-one fs long)
+turn-text verb.Load fs long = by-fields (turn_with verb.Load fs) ∙ ap (λ (l : List ℕ). verb_text verb.Load ++ flat_map field_text l) (list-of-two fs long)
+turn-text verb.Store fs long = by-fields (turn_with verb.Store fs) ∙ ap (λ (l : List ℕ). verb_text verb.Store ++ flat_map field_text l) (list-of-three fs long)
+turn-text verb.Squash fs long = by-fields (turn_with verb.Squash fs) ∙ ap (λ (l : List ℕ). verb_text verb.Squash ++ flat_map field_text l) (list-of-one fs long)
+turn-text verb.Commit fs long = by-fields (turn_with verb.Commit fs) ∙ ap (λ (l : List ℕ). verb_text verb.Commit ++ flat_map field_text l) (list-of-one fs long)
+turn-text verb.Replace fs long = by-fields (turn_with verb.Replace fs) ∙ ap (λ (l : List ℕ). verb_text verb.Replace ++ flat_map field_text l) (list-of-two fs long)
 
 join-fields : (word : List ℕ) (fs : List ℕ) → join space (word ∷ map decimal fs) ≡ word ++ flat_map field_text fs
 join-fields word [] = sym (append-nil word)

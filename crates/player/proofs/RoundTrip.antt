@@ -9,6 +9,7 @@ use Rattle.std.proofs.lemmas.List.{append_assoc, append-nil}
 use Rattle.std.proofs.lemmas.Bool.{and_parts, cond-true, cond-false, eq-eqb, ne_eqb, leb-true, lt-ltb, cases_lt}
 use Rattle.versions.specs.declared.turn.Turn.{Turn}
 use Rattle.versions.specs.declared.turn.Turn.TheVariants.{Start, Load, Store, Squash, Commit, Replace}
+use Rattle.versions.specs.Turns.{turn_text}
 use Rattle.player.specs.declared.fault.TextWhy.{TextWhy}
 use Rattle.player.specs.declared.fault.TextWhy.TheVariants as why
 use Rattle.player.specs.declared.verb.Verb.{Verb}
@@ -19,9 +20,29 @@ use Rattle.player.specs.Left.{after}
 use Rattle.player.specs.Splits.{line_end, space, split, begun}
 use Rattle.player.specs.Text.{whole_read, turn_before, line_read, lines_read, text_read}
 use Rattle.player.specs.Verbs.{verb_text, verb_named, field_count, turn_with}
-use Rattle.player.specs.Writing.{verb_of, fields_in, field_text, turn_text, text_of, Small}
+use Rattle.player.specs.Writing.{fields_in, text_of, Small}
 pub use Rattle.player.proofs.Numbering.{own}
 use Rattle.player.proofs.Reading.{lines_cons}
+
+-- a turn's text by its verb and its fields, each after its space
+abbrev verb_of : Turn → Verb
+verb_of (Start p) = verb.Start
+verb_of (Load p a) = verb.Load
+verb_of (Store p a w) = verb.Store
+verb_of (Squash p) = verb.Squash
+verb_of (Commit p) = verb.Commit
+verb_of (Replace p a) = verb.Replace
+
+abbrev pub field_text : ℕ → List ℕ
+field_text n = space ∷ decimal n
+
+pub by-fields : (t : Turn) → turn_text t ≡ verb_text (verb_of t) ++ flat_map field_text (fields_in t)
+by-fields (Start p) = simp append-nil
+by-fields (Load p a) = simp append-nil
+by-fields (Store p a w) = simp append-nil
+by-fields (Squash p) = simp append-nil
+by-fields (Commit p) = simp append-nil
+by-fields (Replace p a) = simp append-nil
 
 -- bytes without a separator
 no-separator-first : (sep b : ℕ) (bs : List ℕ) → after sep (b ∷ bs) ≡ None → (eqb b sep ≡ false) × (after sep bs ≡ None)
@@ -120,13 +141,14 @@ turn-back t fit =
     let fs = fields_in t in
     let plain = verb-plain v in
     let made = turn-made t in
-    ap turn_of_parts (split-fields (verb_text v) fs plain.0 fit)
+    ap turn_of (by-fields t)
+    ∙ (ap turn_of_parts (split-fields (verb_text v) fs plain.0 fit)
     ∙ (ap (λ (o : Option Verb). turn_of_verb o (map decimal fs)) plain.2
     ∙ (ap (λ (k : ℕ). turn_of_fields v (fields_of k (map decimal fs))) made.0
-    ∙ (ap (turn_of_fields v) (fields_back fs fit) ∙ ap (λ (u : Turn). Ok u) made.1)))
+    ∙ (ap (turn_of_fields v) (fields_back fs fit) ∙ ap (λ (u : Turn). Ok u) made.1))))
 
 no-end-turn : (t : Turn) → Small t → after line_end (turn_text t) ≡ None
-no-end-turn t fit = after-append line_end (verb_text (verb_of t)) (flat_map field_text (fields_in t)) (verb-plain (verb_of t)).1 (no-end-fields (fields_in t) fit)
+no-end-turn t fit = ap (after line_end) (by-fields t) ∙ after-append line_end (verb_text (verb_of t)) (flat_map field_text (fields_in t)) (verb-plain (verb_of t)).1 (no-end-fields (fields_in t) fit)
 
 lines-back : (at free : ℕ) (ts : List Turn) → AllByRecursion Small ts → length ts ≤ free → lines_read at free (split line_end (text_of ts)) ≡ whole_read ts
 lines-back at free [] fit room = refl

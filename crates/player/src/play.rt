@@ -95,7 +95,7 @@ pub fn play_text<S: VersionStore>(
     ensures turns { Gained lists.old.turns (script_of lists.old text.now).read lists.new.turns }
     ensures answers { Gained lists.old.answers (answers_of (S.VersionStore.plain store.old) (script_of lists.old text.now).played) lists.new.answers }
     ensures after { S.VersionStore.plain store.new ≡ state_after_all (S.VersionStore.plain store.old) (script_of lists.old text.now).played }
-    ensures shows { ShowsAll S.VersionStore.shows store.old (script_of lists.old text.now).played store.new }
+    ensures shows { ShowsAll S.VersionStore.plain S.VersionStore.shows store.old (script_of lists.old text.now).played store.new }
     ensures sequential { ReadsOn (S.VersionStore.plain store.old) (paired (script_of lists.old text.now).played (drop (length (content lists.old.answers)) (content lists.new.answers))) (S.VersionStore.plain store.new) }
     ensures beside { S.VersionStore.spare store.new ≡ S.VersionStore.spare store.old }
     ensures kept { S.VersionStore.sound store.new }
@@ -117,7 +117,7 @@ fn play_each<S: VersionStore>(
     ensures answer { result ≡ told (places_answer (free answers.old) turns.now) (active_tasks (S.VersionStore.plain store.new)) }
     ensures answers { Gained answers.old (answers_of (S.VersionStore.plain store.old) (take (free answers.old) turns.now)) answers.new }
     ensures after { S.VersionStore.plain store.new ≡ state_after_all (S.VersionStore.plain store.old) (take (free answers.old) turns.now) }
-    ensures shows { ShowsAll S.VersionStore.shows store.old (take (free answers.old) turns.now) store.new }
+    ensures shows { ShowsAll S.VersionStore.plain S.VersionStore.shows store.old (take (free answers.old) turns.now) store.new }
     ensures beside { S.VersionStore.spare store.new ≡ S.VersionStore.spare store.old }
     ensures kept { S.VersionStore.sound store.new }
 {

@@ -1,5 +1,5 @@
 // Writing turns as text, one line for each.
-ghost use Rattle.std.specs.Prelude.{◌≡◌, ℕ, ◌≤◌, ◌++◌, length, IfOk, string_bytes};
+ghost use Rattle.std.specs.Prelude.{◌≡◌, ℕ, ◌<◌, ◌≤◌, [], ◌∷◌, ◌++◌, length, IfOk, string_bytes};
 ghost use Rattle.player.specs.Text.{text_read, whole_read};
 ghost use Rattle.player.specs.Writing.{line_of, text_of, Small};
 
@@ -22,6 +22,7 @@ pub fn write_turns(heap: Global, turns: &[Turn]) -> Result<String, AllocError>
 // The line of a turn. Its fields are numbers of 32 bits.
 pub fn write_turn(heap: Global, turn: Turn) -> Result<String, AllocError>
     ensures text { IfOk result (λ s. string_bytes s ≡ line_of turn) }
+    ensures back { IfOk result (λ s. (free : ℕ) → 0 < free → text_read free (string_bytes s) ≡ whole_read (turn ∷ [])) }
     ensures small { Small turn }
 {
     let mut text = String::new(heap);

@@ -2,13 +2,13 @@
 -- the head replaces an address.
 use Rattle.std.proofs.Common.{◌≡◌, ℕ, zero, suc, ◌%◌, ◌<◌, ◌≤◌, Bool, true, false, cond, ◌&&◌, eqb, ◌⊎◌, List, ◌∷◌, ◌++◌, map, length, get_or, take, drop, set, is_some, Some, None, Option, unwrap_or, sym, refl, ap, ◌∙◌, inl, inr, ⊎_elim, arith}
 use mathlib.Core.Path.{fun_ext}
-use Rattle.std.specs.Option.{option_map}
+use Rattle.std.specs.Option.{option_map, option_or}
 use Rattle.std.proofs.lemmas.List.{drop-append-le, take-take, take-append-drop, get_or-set_same, get_or-set_other}
 use Rattle.std.proofs.lemmas.Bool.{eqb-true, eqb-false, eq-eqb, ne_eqb, cases_eq, cond-true, cond-false, true≢false, and_right, and_from}
 use Rattle.versions.specs.declared.version.Version.{Version}
 use Rattle.versions.specs.Orders.{place_in, Apart}
 use Rattle.versions.specs.Plain.{laid_over_all, written_to}
-use Rattle.versions.specs.Tables.{Table, with_version, without, without_all, Fitting, or_else}
+use Rattle.versions.specs.Tables.{Table, with_version, without, without_all, Fitting}
 use Rattle.versions.specs.Versions.{no_version, is_held, is_own, laid_over, seen_by}
 use Rattle.snooping.specs.declared.line.Line.{Line}
 use Rattle.snooping.specs.declared.state.LineEvent.TheVariants.{Commit}
@@ -82,7 +82,7 @@ module _ (ws ps : List ℕ) (ls : LineTable) (x : Laid ws ps ls) (apart : Apart 
       ∙ (ap (pointer_to (take m ps)) (holder-append (table_by ls) b (drop (suc k) (take m ps)) (drop m ps))
       ∙ go (holder (table_by ls) b (drop (suc k) (take m ps))) refl (holder (table_by ls) b (drop m ps)) refl)
     where
-      go : (o : Option ℕ) → holder (table_by ls) b (drop (suc k) (take m ps)) ≡ o → (u : Option ℕ) → holder (table_by ls) b (drop m ps) ≡ u → pointer_to (take m ps) (or_else o u) ≡ o
+      go : (o : Option ℕ) → holder (table_by ls) b (drop (suc k) (take m ps)) ≡ o → (u : Option ℕ) → holder (table_by ls) b (drop m ps) ≡ u → pointer_to (take m ps) (option_or o u) ≡ o
       go (Some r) e u f = cond-true (is_some (place_in (take m ps) r)) (Some r) None (drop-in (suc k) (take m ps) r (holder-found (table_by ls) b (drop (suc k) (take m ps)) r e).0)
       go None e None f = refl
       go None e (Some r) f = away (is_some (place_in (take m ps) r)) refl

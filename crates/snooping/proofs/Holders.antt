@@ -1,10 +1,10 @@
 -- The first of some processors that holds an address, and columns of versions that agree.
 use Rattle.std.proofs.Common.{◌≡◌, ℕ, zero, suc, ◌-◌, ◌<◌, Bool, true, false, cond, eqb, List, [], ◌∷◌, ◌++◌, map, length, get_or, take, is_some, Some, None, Option, unwrap_or, sym, refl, ap, ◌∙◌, subst, arith}
-use Rattle.std.specs.Option.{option_map}
+use Rattle.std.specs.Option.{option_map, option_or}
 use Rattle.std.proofs.lemmas.Bool.{eqb-true, eq-eqb, cond-true, cond-false, true≢false}
 use Rattle.versions.specs.declared.version.Version.{Version}
 use Rattle.versions.specs.Orders.{place_in}
-use Rattle.versions.specs.Tables.{Table, or_else}
+use Rattle.versions.specs.Tables.{Table}
 use Rattle.versions.specs.Versions.{is_held, is_own, laid_over, seen_by, squashed_by}
 use Rattle.snooping.specs.Grid.{holder}
 
@@ -31,11 +31,11 @@ holder-same s t b (q ∷ qs) agree =
     ap (λ (u : Bool). cond u (Some q) (holder s b qs)) (agree q 0 (first-place q qs))
     ∙ ap (λ (o : Option ℕ). cond (is_held (t q b)) (Some q) o) (holder-same s t b qs (λ r j e. let x = later-place q qs r j e in agree r x.0 x.1))
 
-pub holder-append : (t : Table) (b : ℕ) (xs ys : List ℕ) → holder t b (xs ++ ys) ≡ or_else (holder t b xs) (holder t b ys)
+pub holder-append : (t : Table) (b : ℕ) (xs ys : List ℕ) → holder t b (xs ++ ys) ≡ option_or (holder t b xs) (holder t b ys)
 holder-append t b [] ys = refl
 holder-append t b (x ∷ xs) ys = go (is_held (t x b)) (holder-append t b xs ys)
   where
-    go : (u : Bool) → holder t b (xs ++ ys) ≡ or_else (holder t b xs) (holder t b ys) → cond u (Some x) (holder t b (xs ++ ys)) ≡ or_else (cond u (Some x) (holder t b xs)) (holder t b ys)
+    go : (u : Bool) → holder t b (xs ++ ys) ≡ option_or (holder t b xs) (holder t b ys) → cond u (Some x) (holder t b (xs ++ ys)) ≡ option_or (cond u (Some x) (holder t b xs)) (holder t b ys)
     go true e = refl
     go false e = e
 

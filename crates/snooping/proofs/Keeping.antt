@@ -1,12 +1,12 @@
 -- Lines that are as the words, the order and the versions demand stay so through every turn.
 use Rattle.std.proofs.Common.{◌≡◌, ℕ, suc, ◌%◌, ◌<◌, ◌≤◌, Bool, true, false, cond, ◌&&◌, eqb, ◌⊎◌, List, [], ◌∷◌, ◌++◌, map, get_or, take, drop, Some, None, Option, sym, refl, ap, ◌∙◌, subst, inl, inr, ⊎_elim, arith}
 use mathlib.Core.Path.{fun_ext}
-use Rattle.std.specs.Option.{option_map}
+use Rattle.std.specs.Option.{option_map, option_or}
 use Rattle.std.proofs.lemmas.List.{drop-append-le, take-append-le}
 use Rattle.std.proofs.lemmas.Bool.{eqb-true, eqb-false, eq-eqb, ne_eqb, cases_eq, cases_lt, cond-true, cond-false, true≢false, and_left, and_right, and_from}
 use Rattle.versions.specs.declared.version.Version.{Version}
 use Rattle.versions.specs.Orders.{place_in, Apart}
-use Rattle.versions.specs.Tables.{Table, with_version, or_else}
+use Rattle.versions.specs.Tables.{Table, with_version}
 use Rattle.versions.specs.Versions.{no_version, is_held, is_own, seen_by}
 use Rattle.snooping.specs.declared.line.Line.{Line}
 use Rattle.snooping.specs.Grid.{LineTable, table_by, with_line, holder}
@@ -82,9 +82,9 @@ module _ (ws ps : List ℕ) (ls : LineTable) (x : Laid ws ps ls) (p : ℕ) (idle
           x.next q k c m held
           ∙ sym (ap (holder (table_by ls) b) (drop-append-le (suc k) ps (p ∷ []) (omega (arith, long)))
           ∙ (holder-append (table_by ls) b (drop (suc k) ps) (p ∷ [])
-          ∙ (ap (λ (v : Version). or_else (holder (table_by ls) b (drop (suc k) ps)) (cond (is_held v) (Some p) None)) (idle b) ∙ else-none (holder (table_by ls) b (drop (suc k) ps)))))
+          ∙ (ap (λ (v : Version). option_or (holder (table_by ls) b (drop (suc k) ps)) (cond (is_held v) (Some p) None)) (idle b) ∙ else-none (holder (table_by ls) b (drop (suc k) ps)))))
         where
-          else-none : (o : Option ℕ) → or_else o None ≡ o
+          else-none : (o : Option ℕ) → option_or o None ≡ o
           else-none None = refl
           else-none (Some r) = refl
 

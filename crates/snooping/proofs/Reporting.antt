@@ -1,13 +1,15 @@
 -- The report of a turn, said of an order of processors and a table of versions.
 use Rattle.std.proofs.Common.{◌≡◌, ℕ, suc, Bool, true, false, cond, not, ◌&&◌, ◌||◌, List, [], ◌∷◌, map, length, take, drop, is_some, Some, None, Ok, Err, Option, Result, sym, refl, ap, ◌∙◌, arith}
+use Rattle.std.specs.Option.{option_or}
+use Rattle.std.specs.List.{list_any}
 use Rattle.memory.specs.Client.{count_below}
 use Rattle.versions.specs.declared.refusal.Refusal.{Refusal}
 use Rattle.versions.specs.declared.turn.Turn.{Turn}
 use Rattle.versions.specs.declared.turn.Turn.TheVariants.{Load, Store, Commit, Replace}
-use Rattle.versions.specs.Cuts.{any, before, past}
+use Rattle.versions.specs.Cuts.{before, past}
 use Rattle.versions.specs.Orders.{place_in, Apart}
 use Rattle.versions.specs.Plain.{Task, Plain, is_on, refusal_of, given, answer_by, answer_of}
-use Rattle.versions.specs.Tables.{Table, task_by, plain_of, last_own, or_else}
+use Rattle.versions.specs.Tables.{Table, task_by, plain_of, last_own}
 use Rattle.versions.specs.Versions.{is_own, is_held}
 use Rattle.versions.proofs.Tabling.{placed, task_on-is, before-is, past_is, given-commit}
 use Rattle.snooping.specs.declared.report.BusReport.{BusReport}
@@ -38,13 +40,13 @@ unreported old s t x e = go (refusal_of s t) refl
 module _ (table : Table) where
   owner-is : (a : ℕ) (qs : List ℕ) → last_owner a (map (task_by table) qs) ≡ last_that (λ q. is_own (table q a)) qs
   owner-is a [] = refl
-  owner-is a (q ∷ qs) = ap (λ (o : Option ℕ). or_else o (cond (is_own (table q a)) (Some q) None)) (owner-is a qs)
+  owner-is a (q ∷ qs) = ap (λ (o : Option ℕ). option_or o (cond (is_own (table q a)) (Some q) None)) (owner-is a qs)
 
-  holds-is : (a : ℕ) (qs : List ℕ) → any (λ t. is_held (t.at a)) (map (task_by table) qs) ≡ is_some (holder table a qs)
+  holds-is : (a : ℕ) (qs : List ℕ) → list_any (λ t. is_held (t.at a)) (map (task_by table) qs) ≡ is_some (holder table a qs)
   holds-is a [] = refl
   holds-is a (q ∷ qs) = go (is_held (table q a)) (holds-is a qs)
     where
-      go : (t : Bool) → any (λ u. is_held (u.at a)) (map (task_by table) qs) ≡ is_some (holder table a qs) → (t || any (λ u. is_held (u.at a)) (map (task_by table) qs)) ≡ is_some (cond t (Some q) (holder table a qs))
+      go : (t : Bool) → list_any (λ u. is_held (u.at a)) (map (task_by table) qs) ≡ is_some (holder table a qs) → (t || list_any (λ u. is_held (u.at a)) (map (task_by table) qs)) ≡ is_some (cond t (Some q) (holder table a qs))
       go true e = refl
       go false e = e
 
@@ -70,9 +72,9 @@ module _ (ws ps : List ℕ) (table : Table) (p k : ℕ) (apart : Apart ps) (plac
   report-store a w =
       let x = placed ps p k place in
       let later = past_is table ps p k x in
-      ap (λ (t : Task). cond (is_own (t.at a) && not (any (λ u. is_held (u.at a)) (past (is_on p) (map (task_by table) ps)))) quiet
+      ap (λ (t : Task). cond (is_own (t.at a) && not (list_any (λ u. is_held (u.at a)) (past (is_on p) (map (task_by table) ps)))) quiet
       (bus_write a (powers (map (λ u. u.on) (reached (λ u. u.at a) (past (is_on p) (map (task_by table) ps))))))) (task_on-is table ps p k x)
-      ∙ (ap (λ (l : List Task). cond (is_own (table p a) && not (any (λ u. is_held (u.at a)) l)) quiet (bus_write a (powers (map (λ u. u.on) (reached (λ u. u.at a) l))))) later
+      ∙ (ap (λ (l : List Task). cond (is_own (table p a) && not (list_any (λ u. is_held (u.at a)) l)) quiet (bus_write a (powers (map (λ u. u.on) (reached (λ u. u.at a) l))))) later
       ∙ (ap (λ (b : Bool). cond (is_own (table p a) && not b) quiet (bus_write a (powers (map (λ u. u.on) (reached (λ u. u.at a) (map (task_by table) (drop (suc k) ps))))))) (holds-is table a (drop (suc k) ps))
       ∙ ap (λ (l : List ℕ). cond (is_own (table p a) && not (is_some (holder table a (drop (suc k) ps)))) quiet (bus_write a (powers l))) (reached-is table a (drop (suc k) ps))))
 

@@ -2,7 +2,7 @@
 -- the lines of that state, and the report.
 use Rattle.std.proofs.Common.{◌≡◌, ℕ, zero, suc, ◌+◌, ◌-◌, ◌%◌, ◌<◌, ◌≤◌, Bool, true, false, cond, not, ◌&&◌, ◌||◌, eqb, List, [], ◌∷◌, ◌++◌, map, length, get_or, take, drop, is_some, Some, None, Ok, Err, Option, Result, unwrap_or, sym, refl, ap, ◌∙◌, subst, ⊎_elim, add-one, arith}
 use mathlib.Core.Path.{fun_ext}
-use Rattle.std.specs.Option.{option_map}
+use Rattle.std.specs.Option.{option_map, option_or}
 use Rattle.std.proofs.lemmas.List.{drop-take, take-take, take-append-drop, take_all, drop_all, map-append, length-map, length-drop, get_or-drop}
 use Rattle.std.proofs.lemmas.Bool.{eqb-true, eq-eqb, ne_eqb, cases_eq, cases_lt, cond-true, cond-false, true≢false, and_left, and_from}
 use Rattle.memory.specs.Client.{count_below}
@@ -12,7 +12,7 @@ use Rattle.versions.specs.declared.turn.Turn.TheVariants.{Start, Load, Store, Sq
 use Rattle.versions.specs.declared.version.Version.{Version}
 use Rattle.versions.specs.Orders.{place_in, Apart}
 use Rattle.versions.specs.Plain.{Plain, refusal_of, laid_over_all, written_to, answer_of, state_after}
-use Rattle.versions.specs.Tables.{Table, plain_of, empty_table, with_version, without, without_all, Fitting, with_processor, access_place, start_place, squash_place, commit_place, replace_place, last_own, or_else}
+use Rattle.versions.specs.Tables.{Table, plain_of, empty_table, with_version, without, without_all, Fitting, with_processor, access_place, start_place, squash_place, commit_place, replace_place, last_own}
 use Rattle.versions.specs.Versions.{no_version, is_held, is_own, with_load, with_store, laid_over, seen_by, squashed_by}
 use Rattle.versions.proofs.Classes.{unheld-none}
 use Rattle.versions.proofs.Fits.{none-join, without_all-value, front_out}
@@ -122,15 +122,15 @@ last-passes f (r ∷ qs) q e = go (last_that f qs) refl (f r) refl e (λ i. last
 
     go : (o : Option ℕ) → last_that f qs ≡ o → (t : Bool) → f r ≡ t → last_that f (r ∷ qs) ≡ Some q → (last_that f qs ≡ Some q → (f q ≡ true) × (is_some (place_in qs q) ≡ true)) → (f q ≡ true) × (is_some (place_in (r ∷ qs) q) ≡ true)
     go (Some x) i t s e again =
-        let is : Some x ≡ Some q = sym (ap (λ (o : Option ℕ). or_else o (cond (f r) (Some r) None)) i) ∙ e in
+        let is : Some x ≡ Some q = sym (ap (λ (o : Option ℕ). option_or o (cond (f r) (Some r) None)) i) ∙ e in
         let y = again (i ∙ is) in
         (y.0, more (eqb r q) (place_in qs q) y.1)
     go None i true s e again =
-        let is : Some r ≡ Some q = sym (ap (λ (o : Option ℕ). or_else o (cond (f r) (Some r) None)) i ∙ ap (λ (t : Bool). cond t (Some r) None) s) ∙ e in
+        let is : Some r ≡ Some q = sym (ap (λ (o : Option ℕ). option_or o (cond (f r) (Some r) None)) i ∙ ap (λ (t : Bool). cond t (Some r) None) s) ∙ e in
         let same : r ≡ q = cc in
         (ap f (sym same) ∙ s, subst (λ (x : ℕ). is_some (place_in (r ∷ qs) x) ≡ true) same (ap is_some (cond-true (eqb r r) (Some 0) (option_map suc (place_in qs r)) (eq-eqb r r refl))))
     go None i false s e again =
-        let is : None ≡ Some q = sym (ap (λ (o : Option ℕ). or_else o (cond (f r) (Some r) None)) i ∙ ap (λ (t : Bool). cond t (Some r) None) s) ∙ e in
+        let is : None ≡ Some q = sym (ap (λ (o : Option ℕ). option_or o (cond (f r) (Some r) None)) i ∙ ap (λ (t : Bool). cond t (Some r) None) s) ∙ e in
         absurd (none-some q (sym is))
 
 -- what the last of some tasks sees is the word of the last that has one
@@ -154,7 +154,7 @@ seen_last f (q ∷ qs) w = seen_last f qs (laid_over (f q) w) ∙ go (last_that 
         no_own None i = refl
         no_own (Some u) i = absurd (true≢false i)
 
-    go : (o : Option ℕ) → last_that (λ r. is_own (f r)) qs ≡ o → last_seen f (laid_over (f q) w) o ≡ last_seen f w (or_else o (cond (is_own (f q)) (Some q) None))
+    go : (o : Option ℕ) → last_that (λ r. is_own (f r)) qs ≡ o → last_seen f (laid_over (f q) w) o ≡ last_seen f w (option_or o (cond (is_own (f q)) (Some q) None))
     go None e = here (is_own (f q)) refl
     go (Some r) e = any_word (f r).own (laid_over (f q) w) w (last-passes (λ x. is_own (f x)) qs r e).0
 
@@ -606,14 +606,15 @@ module _ {M : Type 0} (words : M → List ℕ) {sound : M → Type 0} (st : Snoo
       (subst (Laid ws (take (length ps - n) ps)) (sym is) x.0, ap table_by is ∙ x.1)) (cases_lt 0 n)
 
 -- the store after a turn: for the processor that the chain of conditions found, or refused
-pub took : {M : Type 0} (words : M → List ℕ) (sound : M → Type 0) (spare : M → List ℕ) (s : SnoopingStore M) (turn : ℕ → Turn) (p q : ℕ) (r : Result ℕ Refusal) (later : SnoopingStore M) → q ≡ p
-    → Turned (plain_in words s) (turn q) s.report r (words later.memory) (processors_of later.caches) later.caches.list later.report → sound later.memory → spare later.memory ≡ spare s.memory
-    → Took (plain_in words) (Shown words) (λ x. spare x.memory) (SoundSnooping words sound) s (turn p) r later
-took words sound spare s turn p q r later same x memory beside =
-    subst (λ (y : ℕ). Took (plain_in words) (Shown words) (λ z. spare z.memory) (SoundSnooping words sound) s (turn y) r later) same
+pub took : {M : Type 0} (words : M → List ℕ) (sound : M → Type 0) (spare : M → List ℕ) (s : SnoopingStore M) (turn : ℕ → Turn) (p q n : ℕ) (later : SnoopingStore M) → q ≡ p
+    → Turned (plain_in words s) (turn q) s.report (Ok n) (words later.memory) (processors_of later.caches) later.caches.list later.report → sound later.memory → spare later.memory ≡ spare s.memory
+    → Took (plain_in words) (Shown words) (λ x. spare x.memory) (SoundSnooping words sound) s (turn p) (Ok n) later
+took words sound spare s turn p q n later same x memory beside =
+    subst (λ (y : ℕ). Took (plain_in words) (Shown words) (λ z. spare z.memory) (SoundSnooping words sound) s (turn y) (Ok n) later) same
     (record {
       answer = x.answer;
       after = x.after;
+      refused = λ no. absurd (true≢false no);
       shows = record { lines = x.lines ∙ ap lines_of x.after; report = x.report };
       beside = beside;
       kept = record { memory = memory; apart = x.apart; fits = x.fits; lines = x.lines };
@@ -627,6 +628,7 @@ took-refused words sound spare s t r e p place x agrees is same =
     record {
       answer = law.0;
       after = law.1;
+      refused = λ _. refl;
       shows = record { lines = x.lines ∙ ap lines_of law.1; report = unreported s.report (plain_in words s) t e (sym same ∙ law.0) };
       beside = refl;
       kept = x;

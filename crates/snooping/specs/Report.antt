@@ -1,12 +1,14 @@
 -- What the bus reports of a turn, from the state of the plain store before it.
 use Rattle.std.specs.Prelude.{ℕ, ◌+◌, ◌^◌, cond, not, ◌&&◌, List, [], ◌∷◌, map, length, Some, None, Option}
+use Rattle.std.specs.Option.{option_or}
+use Rattle.std.specs.List.{list_any}
 use Rattle.versions.specs.declared.refusal.Refusal.{Refusal}
 use Rattle.versions.specs.declared.turn.Turn.{Turn}
 use Rattle.versions.specs.declared.turn.Turn.TheVariants.{Start, Load, Store, Squash, Commit, Replace}
 use Rattle.versions.specs.declared.version.Version.{Version}
-use Rattle.versions.specs.Cuts.{any, before, past}
+use Rattle.versions.specs.Cuts.{before, past}
 use Rattle.versions.specs.Plain.{Task, Plain, is_on, task_on, refusal_of, given}
-use Rattle.versions.specs.Tables.{or_else, last_own}
+use Rattle.versions.specs.Tables.{last_own}
 use Rattle.versions.specs.Versions.{is_own, is_held}
 use Rattle.snooping.specs.declared.report.BusKind.{BusKind}
 use Rattle.snooping.specs.declared.report.BusKind.TheVariants.{Quiet, BusRead, BusWrite, BusWback}
@@ -47,7 +49,7 @@ supplied_by (Some p) = Processor p
 
 abbrev pub last_owner : ℕ → List Task → Option ℕ
 last_owner a [] = None
-last_owner a (t ∷ ts) = or_else (last_owner a ts) (cond (is_own (t.at a)) (Some t.on) None)
+last_owner a (t ∷ ts) = option_or (last_owner a ts) (cond (is_own (t.at a)) (Some t.on) None)
 
 -- whom the invalidations of a write reach among the later tasks: each up to the next with an own word, and that one only if
 -- it has a mark too
@@ -69,7 +71,7 @@ abbrev pub report_of : Plain → Turn → BusReport
 report_of s (Start p) = quiet
 report_of s (Load p a) = cond (is_held ((task_on p s.order).at a)) quiet (bus_read a (supplied_by (last_owner a (before (is_on p) s.order))))
 report_of s (Store p a w) =
-    cond (is_own ((task_on p s.order).at a) && not (any (λ t. is_held (t.at a)) (past (is_on p) s.order))) quiet
+    cond (is_own ((task_on p s.order).at a) && not (list_any (λ t. is_held (t.at a)) (past (is_on p) s.order))) quiet
     (bus_write a (powers (map (λ t. t.on) (reached (λ t. t.at a) (past (is_on p) s.order)))))
 report_of s (Squash p) = quiet
 report_of s (Commit p) = written_last (last_own (task_on p s.order).at (length s.memory) 16) (given s (Commit p))

@@ -1,6 +1,6 @@
 // The snooping store: four private caches over any memory, kept in order by a bus. Every refusal is decided before the
 // first line, word or report changes.
-ghost use Rattle.std.specs.Prelude.{◌≡◌, ◌%◌, ◌<◌, ◌≤◌, length, take, Ok, slice_index};
+ghost use Rattle.std.specs.Prelude.{◌≡◌, ◌%◌, ◌<◌, ◌≤◌, false, length, take, is_ok, Ok, slice_index};
 ghost use Rattle.versions.specs.Plain.{word_of};
 ghost use Rattle.versions.specs.Versions.{is_own};
 ghost use Rattle.snooping.specs.Caches.{lines_in, table_of, processors_of};
@@ -133,6 +133,7 @@ impl<M: Memory> VersionStore for SnoopingStore<M> {
         requires { SoundSnooping M.Memory.words M.Memory.sound self.old }
         ensures answer { result ≡ word_of (plain_in M.Memory.words self.old) a }
         ensures after { plain_in M.Memory.words self.new ≡ plain_in M.Memory.words self.old }
+        ensures refused { is_ok result ≡ false → self.new ≡ self.old }
         ensures beside { M.Memory.spare self.new.memory ≡ M.Memory.spare self.old.memory }
         ensures kept { SoundSnooping M.Memory.words M.Memory.sound self.new }
         ensures lines { self.new.caches.list ≡ self.old.caches.list }

@@ -1,6 +1,7 @@
 -- A task by classes: it holds at most one address of each of the 16. Whether a class is taken, and how a commit that goes
 -- class by class writes and counts all own words.
 use Rattle.std.proofs.Common.{◌≡◌, ℕ, zero, suc, ◌+◌, ◌%◌, ◌<◌, ◌≤◌, Bool, true, false, cond, not, ◌&&◌, ◌||◌, eqb, ltb, ◌≢◌, List, length, get_or, set, is_some, Some, None, Option, MatchOption, unwrap_or, sym, refl, ap, ◌∙◌, subst, ⊎_elim, add-zero, add-one, arith}
+use Rattle.std.specs.Option.{option_or}
 use Rattle.std.proofs.lemmas.List.{ext_get_or, length-set, get_or-set_same, get_or-set_other}
 use Rattle.std.proofs.lemmas.Bool.{eqb-true, eq-eqb, ne_eqb, cases_eq, cases_lt, lt-ltb, le-ltb, cond-true, cond-false, true≢false, eqb-false, or_left, or_right, or_parts}
 use Rattle.std.proofs.lemmas.Bool.Decides.{nat_tests}
@@ -9,7 +10,7 @@ use Rattle.versions.specs.declared.version.Version.{Version}
 use Rattle.versions.specs.Cuts.{any_below}
 use Rattle.versions.specs.Versions.{no_version, is_own, is_held, laid_over}
 use Rattle.versions.specs.Plain.{Task, holds_class, laid_over_all, written_to}
-use Rattle.versions.specs.Tables.{HeldIn, up_to_class, of_class, or_else, last_own, ClassWritten}
+use Rattle.versions.specs.Tables.{HeldIn, up_to_class, of_class, last_own, ClassWritten}
 use Rattle.versions.proofs.Holding.{length-laid_over_all, get_or-laid_over_all}
 use Rattle.versions.proofs.Ordering.{none-some}
 
@@ -304,9 +305,9 @@ held_none f c (suc n) e b lim class = go (f n) (eqb (n % 16) c) refl refl e (λ 
     go false u h s g again = here false h (λ e. absurd (true≢false (sym e))) (again g)
 
 -- the last own word, one class further
-pub last_on : (at : ℕ → Version) (n c : ℕ) (o last later : Option ℕ) → o ≡ of_class (λ a. is_own (at a)) c n → last ≡ last_own at n c → later ≡ or_else o last → later ≡ last_own at n (c + 1)
+pub last_on : (at : ℕ → Version) (n c : ℕ) (o last later : Option ℕ) → o ≡ of_class (λ a. is_own (at a)) c n → last ≡ last_own at n c → later ≡ option_or o last → later ≡ last_own at n (c + 1)
 last_on at n c o last later o_is last-is later-is =
-    later-is ∙ (ap (λ (x : Option ℕ). or_else x last) o_is ∙ (ap (or_else (of_class (λ a. is_own (at a)) c n)) last-is ∙ ap (last_own at n) (sym (add-one c))))
+    later-is ∙ (ap (λ (x : Option ℕ). option_or x last) o_is ∙ (ap (option_or (of_class (λ a. is_own (at a)) c n)) last-is ∙ ap (last_own at n) (sym (add-one c))))
 
 -- who holds b of class c, and no other of that class: the own word of the class is the one at b
 abbrev own_of : (ℕ → Version) → Option ℕ → Option ℕ

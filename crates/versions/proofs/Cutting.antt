@@ -1,9 +1,10 @@
 -- Laws of cutting a list at its first element that passes a test.
 use Rattle.std.proofs.Common.{◌≡◌, ℕ, suc, ◌-◌, ◌≤◌, Bool, true, false, ◌||◌, List, [], ◌∷◌, ◌++◌, map, length, take, sym, refl, ap, ◌∙◌, arith}
+use Rattle.std.specs.List.{list_any}
 use Rattle.std.proofs.lemmas.List.{length-append, length-map, take_all, take-map}
 use Rattle.std.proofs.lemmas.Bool.{or_parts, true≢false}
 use Rattle.std.proofs.lemmas.Bool.Decides.{nat_tests}
-use Rattle.versions.specs.Cuts.{any, before, up_to, past, changed, but_last}
+use Rattle.versions.specs.Cuts.{before, up_to, past, changed, but_last}
 
 -- the first element that passes, with what stands before it and past it
 pub record Found {A : Type 0} (f : A → Bool) (xs : List A) : Type 0 where
@@ -11,41 +12,41 @@ pub record Found {A : Type 0} (f : A → Bool) (xs : List A) : Type 0 where
   pub here : A
   pub back : List A
   pub parts : xs ≡ front ++ here ∷ back
-  pub none : any f front ≡ false
+  pub none : list_any f front ≡ false
   pub passes : f here ≡ true
 
-pub found : {A : Type 0} (f : A → Bool) (xs : List A) → any f xs ≡ true → Found f xs
+pub found : {A : Type 0} (f : A → Bool) (xs : List A) → list_any f xs ≡ true → Found f xs
 found f [] e = absurd (true≢false (sym e))
 found f (x ∷ xs) e = go (f x) refl (λ h. found f xs h)
   where
-    go : (t : Bool) → f x ≡ t → (any f xs ≡ true → Found f xs) → Found f (x ∷ xs)
+    go : (t : Bool) → f x ≡ t → (list_any f xs ≡ true → Found f xs) → Found f (x ∷ xs)
     go true h again = record { front = []; here = x; back = xs; parts = refl; none = refl; passes = h }
     go false h again =
         let rest = again (grind (arith, nat_tests)) in
         record { front = x ∷ rest.front; here = rest.here; back = rest.back; parts = ap (λ ys. x ∷ ys) rest.parts; none = rw h rest.none; passes = rest.passes }
 
-pub any-++ : {A : Type 0} (f : A → Bool) (xs ys : List A) → any f (xs ++ ys) ≡ (any f xs || any f ys)
+pub any-++ : {A : Type 0} (f : A → Bool) (xs ys : List A) → list_any f (xs ++ ys) ≡ (list_any f xs || list_any f ys)
 any-++ f [] ys = refl
 any-++ f (x ∷ xs) ys = let h = any-++ f xs ys in grind (arith, nat_tests)
 
 module _ {A : Type 0} (f : A → Bool) (x : A) (post : List A) (here : f x ≡ true) where
-  pub before_at : (pre : List A) → any f pre ≡ false → before f (pre ++ x ∷ post) ≡ pre
+  pub before_at : (pre : List A) → list_any f pre ≡ false → before f (pre ++ x ∷ post) ≡ pre
   before_at [] none = rw here
-  before_at (y ∷ pre) none = let p = or_parts (f y) (any f pre) none in rw (p.0, before_at pre p.1)
+  before_at (y ∷ pre) none = let p = or_parts (f y) (list_any f pre) none in rw (p.0, before_at pre p.1)
 
-  pub up_to-at : (pre : List A) → any f pre ≡ false → up_to f (pre ++ x ∷ post) ≡ pre ++ x ∷ []
+  pub up_to-at : (pre : List A) → list_any f pre ≡ false → up_to f (pre ++ x ∷ post) ≡ pre ++ x ∷ []
   up_to-at [] none = rw here
-  up_to-at (y ∷ pre) none = let p = or_parts (f y) (any f pre) none in rw (p.0, up_to-at pre p.1)
+  up_to-at (y ∷ pre) none = let p = or_parts (f y) (list_any f pre) none in rw (p.0, up_to-at pre p.1)
 
-  pub past-at : (pre : List A) → any f pre ≡ false → past f (pre ++ x ∷ post) ≡ post
+  pub past-at : (pre : List A) → list_any f pre ≡ false → past f (pre ++ x ∷ post) ≡ post
   past-at [] none = rw here
-  past-at (y ∷ pre) none = let p = or_parts (f y) (any f pre) none in rw (p.0, past-at pre p.1)
+  past-at (y ∷ pre) none = let p = or_parts (f y) (list_any f pre) none in rw (p.0, past-at pre p.1)
 
-  pub changed-at : (g : A → A) (pre : List A) → any f pre ≡ false → changed f g (pre ++ x ∷ post) ≡ pre ++ g x ∷ post
+  pub changed-at : (g : A → A) (pre : List A) → list_any f pre ≡ false → changed f g (pre ++ x ∷ post) ≡ pre ++ g x ∷ post
   changed-at g [] none = rw here
-  changed-at g (y ∷ pre) none = let p = or_parts (f y) (any f pre) none in rw (p.0, changed-at g pre p.1)
+  changed-at g (y ∷ pre) none = let p = or_parts (f y) (list_any f pre) none in rw (p.0, changed-at g pre p.1)
 
-  pub any_at : (pre : List A) → any f (pre ++ x ∷ post) ≡ true
+  pub any_at : (pre : List A) → list_any f (pre ++ x ∷ post) ≡ true
   any_at [] = rw here
   any_at (y ∷ pre) = let h = any_at pre in grind (arith, nat_tests)
 

@@ -1,12 +1,12 @@
 -- Which turns are refused, said of an order of processors and a table of versions.
 use Rattle.std.proofs.Common.{◌≡◌, ℕ, suc, ◌<◌, Bool, true, false, cond, not, eqb, leb, List, [], ◌∷◌, map, length, is_some, Some, None, Ok, Err, Option, Result, sym, refl, ap, ◌∙◌, subst, arith}
+use Rattle.std.specs.List.{list_any}
 use Rattle.std.specs.Option.{ok_or, option_map}
 use Rattle.std.proofs.lemmas.Bool.{leb-false, eqb-true, eq-eqb, ne_eqb, true≢false, not-false}
 use Rattle.versions.specs.declared.refusal.Refusal.{Refusal}
 use Rattle.versions.specs.declared.refusal.Refusal.TheVariants.{NoProcessor, TaskActive, NoTask, NoAddress, ClassTaken, NotHead, IsHead, NotHeld}
 use Rattle.versions.specs.declared.turn.Turn.{Turn}
 use Rattle.versions.specs.declared.turn.Turn.TheVariants.{Start, Load, Squash, Commit, Replace}
-use Rattle.versions.specs.Cuts.{any}
 use Rattle.versions.specs.Orders.{place_in}
 use Rattle.versions.specs.Versions.{is_held}
 use Rattle.versions.specs.Plain.{Task, Plain, is_on, task_on, is_head, holds_class, refusal_of, given, moved, answer_by, unless_refused, answer_of, state_after}
@@ -73,7 +73,7 @@ head-is table (q ∷ ps) p k e = go (eqb q p) (place_in ps p) e
     go false (Some j) e = let z : suc j ≡ k = cc in sym (ne_eqb k 0 (omega arith))
 
 module _ (ws ps : List ℕ) (table : Table) (p : ℕ) where
-  active-test : any (is_on p) (map (task_by table) ps) ≡ is_some (place_in ps p)
+  active-test : list_any (is_on p) (map (task_by table) ps) ≡ is_some (place_in ps p)
   active-test = any-task_by table ps p
 
   task-test : (k : ℕ) → place_in ps p ≡ Some k → task_on p (map (task_by table) ps) ≡ task_by table p

@@ -29,13 +29,14 @@ state-step s ts i d u v h u-is v-is =
     v-is ∙ (ap (λ (x : Plain). state_after x (get_or ts i d)) u-is ∙ sym (ap (state_after_all s) (take_more ts i d h) ∙ state_after_all-push s (take i ts) (get_or ts i d)))
 
 -- and what the store shows of it, after what it showed of the turns before
-shows-push : {S : Type 0} (show : S → Turn → S → Type 0) (s u v : S) (ts : List Turn) (t : Turn) → ShowsAll show s ts u → show u t v → ShowsAll show s (ts ++ t ∷ []) v
-shows-push show s u v [] t same one = (v, subst (λ x. show x t v) same one, refl)
-shows-push show s u v (r ∷ ts) t all one = (all.0, all.1, shows-push show all.0 u v ts t all.2 one)
+shows-push : {S : Type 0} (state : S → Plain) (show : S → Turn → S → Type 0) (s u v : S) (ts : List Turn) (t : Turn) → ShowsAll state show s ts u → state v ≡ state_after (state u) t → show u t v
+    → ShowsAll state show s (ts ++ t ∷ []) v
+shows-push state show s u v [] t same after one = (v, subst (λ x. state v ≡ state_after (state x) t) same after, subst (λ x. show x t v) same one, refl)
+shows-push state show s u v (r ∷ ts) t all after one = (all.0, all.1, all.2, shows-push state show all.0 u v ts t all.3 after one)
 
-pub shows-step : {S : Type 0} (show : S → Turn → S → Type 0) (s u v : S) (ts : List Turn) (i : ℕ) (d : Turn) → i < length ts → ShowsAll show s (take i ts) u → show u (get_or ts i d) v
-    → ShowsAll show s (take (i + 1) ts) v
-shows-step show s u v ts i d h all one = subst (λ (l : List Turn). ShowsAll show s l v) (sym (take_more ts i d h)) (shows-push show s u v (take i ts) (get_or ts i d) all one)
+pub shows-step : {S : Type 0} (state : S → Plain) (show : S → Turn → S → Type 0) (s u v : S) (ts : List Turn) (i : ℕ) (d : Turn) → i < length ts → ShowsAll state show s (take i ts) u
+    → state v ≡ state_after (state u) (get_or ts i d) → show u (get_or ts i d) v → ShowsAll state show s (take (i + 1) ts) v
+shows-step state show s u v ts i d h all after one = subst (λ (l : List Turn). ShowsAll state show s l v) (sym (take_more ts i d h)) (shows-push state show s u v (take i ts) (get_or ts i d) all after one)
 
 -- and its answer r written at its place
 pub answers-step : (s : Plain) (ts : List Turn) (rs qs : List (Result ℕ Refusal)) (i : ℕ) (d : Turn) (u : Plain) (r e : Result ℕ Refusal) → i < length ts → i < length rs

@@ -1,6 +1,7 @@
 -- The plain store's turns, said of an order of processors and a table of versions. Every store that keeps such a table
 -- uses these laws.
 use Rattle.std.proofs.Common.{◌≡◌, ℕ, zero, suc, ◌-◌, ◌<◌, ◌≤◌, Bool, true, false, cond, ◌&&◌, ◌||◌, eqb, List, [], ◌∷◌, ◌++◌, map, length, get_or, take, drop, is_some, Some, None, Option, sym, refl, ap, ◌∙◌, subst, arith}
+use Rattle.std.specs.List.{list_any}
 use mathlib.Core.Path.{fun_ext}
 use Rattle.std.specs.Option.{option_map}
 use Rattle.std.proofs.lemmas.List.{map-append, length-map, length-drop}
@@ -8,7 +9,7 @@ use Rattle.std.proofs.lemmas.Bool.{eq-eqb, eqb-true, cond-true, cond-false}
 use Rattle.memory.specs.Client.{count_below}
 use Rattle.versions.specs.declared.version.Version.{Version}
 use Rattle.versions.specs.declared.turn.Turn.TheVariants.{Start, Load, Store, Squash, Commit, Replace}
-use Rattle.versions.specs.Cuts.{any, before, up_to, past, changed, but_last}
+use Rattle.versions.specs.Cuts.{before, up_to, past, changed, but_last}
 use Rattle.versions.specs.Orders.{place_in, Apart}
 use Rattle.versions.specs.Versions.{no_version, is_own, with_load, with_store, seen_by, squashed_by}
 use Rattle.versions.specs.Plain.{Task, fresh, is_on, changed_at, column, task_on, laid_over_all, written_to, given, moved}
@@ -65,16 +66,16 @@ none-past (q ∷ ps) p k a e = go (eqb q p) refl e (place_in ps p) refl (λ j h.
         subst (λ (n : ℕ). place_in (drop n ps) p ≡ None) same (again j i)
 
 module _ (table : Table) where
-  pub any-task_by : (ps : List ℕ) (p : ℕ) → any (is_on p) (map (task_by table) ps) ≡ is_some (place_in ps p)
+  pub any-task_by : (ps : List ℕ) (p : ℕ) → list_any (is_on p) (map (task_by table) ps) ≡ is_some (place_in ps p)
   any-task_by [] p = refl
   any-task_by (q ∷ ps) p = go (eqb q p) (place_in ps p) (any-task_by ps p)
     where
-      go : (t : Bool) (o : Option ℕ) → any (is_on p) (map (task_by table) ps) ≡ is_some o → (t || any (is_on p) (map (task_by table) ps)) ≡ is_some (cond t (Some 0) (option_map suc o))
+      go : (t : Bool) (o : Option ℕ) → list_any (is_on p) (map (task_by table) ps) ≡ is_some o → (t || list_any (is_on p) (map (task_by table) ps)) ≡ is_some (cond t (Some 0) (option_map suc o))
       go true o h = refl
       go false None h = h
       go false (Some j) h = h
 
-  none-on : (ps : List ℕ) (p : ℕ) → place_in ps p ≡ None → any (is_on p) (map (task_by table) ps) ≡ false
+  none-on : (ps : List ℕ) (p : ℕ) → place_in ps p ≡ None → list_any (is_on p) (map (task_by table) ps) ≡ false
   none-on ps p e = any-task_by ps p ∙ ap is_some e
 
   here_on : (p : ℕ) → is_on p (task_by table p) ≡ true

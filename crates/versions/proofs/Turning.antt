@@ -1,12 +1,13 @@
 -- The book and the plain store go together through every turn.
 use Rattle.std.proofs.Common.{◌≡◌, ℕ, ◌<◌, ◌≤◌, Bool, true, false, cond, not, ◌||◌, eqb, List, [], ◌∷◌, ◌++◌, map, length, get_or, Some, None, Ok, Option, sym, refl, ap, ◌∙◌, subst, arith}
+use Rattle.std.specs.List.{list_any}
 use Rattle.std.proofs.lemmas.List.{append_assoc, map-append, length-map}
 use Rattle.std.proofs.lemmas.Bool.{or_parts, or_from, and_from, and_left, true≢false, not-false, leb-false}
 use Rattle.std.proofs.lemmas.Bool.Decides.{nat_tests}
 use Rattle.versions.specs.declared.refusal.Refusal.{Refusal}
 use Rattle.versions.specs.declared.turn.Turn.{Turn}
 use Rattle.versions.specs.declared.turn.Turn.TheVariants.{Start, Load, Store, Squash, Commit, Replace}
-use Rattle.versions.specs.Cuts.{any, before, up_to, past, changed, but_last}
+use Rattle.versions.specs.Cuts.{before, up_to, past, changed, but_last}
 use Rattle.versions.specs.declared.version.Version.{Version}
 use Rattle.versions.specs.Versions.{no_version, with_load, with_store, seen_by, squashed_by}
 use Rattle.versions.specs.Plain.{Task, Plain, fresh, is_on, changed_at, column, task_on, is_head, conditions, first_of, refusal_of, given, moved, answer_by, unless_refused, answer_of, state_after}
@@ -40,19 +41,19 @@ passed (c ∷ cs) e = go c.0 refl e (λ h. passed cs h)
 abbrev entry_on : ℕ → Entry → Bool
 entry_on p e = eqb e.by p
 
-any-task_of : (p : ℕ) (es : List Entry) → any (is_on p) (map task_of es) ≡ any (entry_on p) es
+any-task_of : (p : ℕ) (es : List Entry) → list_any (is_on p) (map task_of es) ≡ list_any (entry_on p) es
 any-task_of p [] = refl
 any-task_of p (e ∷ es) = ap (λ (t : Bool). entry_on p e || t) (any-task_of p es)
 
-none-committed : (p : ℕ) (es : List Entry) → Each (λ e. e.committed ≡ true) es → any (is_task_of p) es ≡ false
+none-committed : (p : ℕ) (es : List Entry) → Each (λ e. e.committed ≡ true) es → list_any (is_task_of p) es ≡ false
 none-committed p [] h = refl
 none-committed p (e ∷ es) h = let c = h.0 in let r = none-committed p es h.1 in grind (arith, nat_tests)
 
-none_elsewhere : (p : ℕ) (es : List Entry) → any (entry_on p) es ≡ false → any (is_task_of p) es ≡ false
+none_elsewhere : (p : ℕ) (es : List Entry) → list_any (entry_on p) es ≡ false → list_any (is_task_of p) es ≡ false
 none_elsewhere p [] h = refl
 none_elsewhere p (e ∷ es) h =
-    let q = or_parts (entry_on p e) (any (entry_on p) es) h in
-    or_from (is_task_of p e) (any (is_task_of p) es) (and_left (entry_on p e) (not e.committed) q.0) (none_elsewhere p es q.1)
+    let q = or_parts (entry_on p e) (list_any (entry_on p) es) h in
+    or_from (is_task_of p e) (list_any (is_task_of p) es) (and_left (entry_on p e) (not e.committed) q.0) (none_elsewhere p es q.1)
 
 -- where p's task stands, in the book and in the plain store
 record Spot (ws : List ℕ) (b : Book) (s : Plain) (p : ℕ) : Type 0 where
@@ -63,14 +64,14 @@ record Spot (ws : List ℕ) (b : Book) (s : Plain) (p : ℕ) : Type 0 where
   book : b ≡ (done ++ pre) ++ here ∷ post
   order : s.order ≡ map task_of pre ++ task_of here ∷ map task_of post
   held : Held ws done (pre ++ here ∷ post) s.memory
-  book-none : any (is_task_of p) (done ++ pre) ≡ false
+  book-none : list_any (is_task_of p) (done ++ pre) ≡ false
   book-here : is_task_of p here ≡ true
-  plain-none : any (is_on p) (map task_of pre) ≡ false
+  plain-none : list_any (is_on p) (map task_of pre) ≡ false
   plain_here : is_on p (task_of here) ≡ true
 
-spot : (ws : List ℕ) (b : Book) (s : Plain) (p : ℕ) → Together ws b s → any (is_on p) s.order ≡ true → Spot ws b s p
+spot : (ws : List ℕ) (b : Book) (s : Plain) (p : ℕ) → Together ws b s → list_any (is_on p) s.order ≡ true → Spot ws b s p
 spot ws b s p i e =
-    let f = found (entry_on p) i.rest (sym (any-task_of p i.rest) ∙ (ap (any (is_on p)) (sym i.tasks) ∙ e)) in
+    let f = found (entry_on p) i.rest (sym (any-task_of p i.rest) ∙ (ap (list_any (is_on p)) (sym i.tasks) ∙ e)) in
     let k : Held ws i.done (f.front ++ f.here ∷ f.back) s.memory = subst (λ (r : List Entry). Held ws i.done r s.memory) f.parts i.held in
     let free : f.here.committed ≡ false = (each_right (λ e. e.committed ≡ false) f.front (f.here ∷ f.back) k.active).0 in
     record {
@@ -81,16 +82,16 @@ spot ws b s p i e =
       book = i.parts ∙ (ap (λ (r : List Entry). i.done ++ r) f.parts ∙ sym (append_assoc i.done f.front (f.here ∷ f.back)));
       order = i.tasks ∙ (ap (map task_of) f.parts ∙ map-append task_of f.front (f.here ∷ f.back));
       held = k;
-      book-none = any-++ (is_task_of p) i.done f.front ∙ or_from (any (is_task_of p) i.done) (any (is_task_of p) f.front) (none-committed p i.done k.closed) (none_elsewhere p f.front f.none);
+      book-none = any-++ (is_task_of p) i.done f.front ∙ or_from (list_any (is_task_of p) i.done) (list_any (is_task_of p) f.front) (none-committed p i.done k.closed) (none_elsewhere p f.front f.none);
       book-here = and_from (entry_on p f.here) (not f.here.committed) f.passes (ap not free);
       plain-none = any-task_of p f.front ∙ f.none;
       plain_here = f.passes;
     }
 
 -- p's task of a list that has it
-pub task_on-at : (p : ℕ) (pre : List Task) (t : Task) (post : List Task) → any (is_on p) pre ≡ false → is_on p t ≡ true → task_on p (pre ++ t ∷ post) ≡ t
+pub task_on-at : (p : ℕ) (pre : List Task) (t : Task) (post : List Task) → list_any (is_on p) pre ≡ false → is_on p t ≡ true → task_on p (pre ++ t ∷ post) ≡ t
 task_on-at p [] t post none here = rw here
-task_on-at p (u ∷ pre) t post none here = let q = or_parts (is_on p u) (any (is_on p) pre) none in rw (q.0, task_on-at p pre t post q.1 here)
+task_on-at p (u ∷ pre) t post none here = let q = or_parts (is_on p u) (list_any (is_on p) pre) none in rw (q.0, task_on-at p pre t post q.1 here)
 
 module _ (ws : List ℕ) (b : Book) (s : Plain) where
   start-together : (p n : ℕ) → Together ws b s → Together ws (accepted b (Start p) n) (moved s (Start p))
@@ -192,9 +193,9 @@ module _ (ws : List ℕ) (b : Book) (s : Plain) where
     front-empty : is_head p s.order ≡ true → x.pre ≡ []
     front-empty head = go x.pre (sym (ap (is_head p) x.order) ∙ head) x.plain-none
       where
-        go : (pre : List Entry) → is_head p (map task_of pre ++ task_of x.here ∷ map task_of x.post) ≡ true → any (is_on p) (map task_of pre) ≡ false → pre ≡ []
+        go : (pre : List Entry) → is_head p (map task_of pre ++ task_of x.here ∷ map task_of x.post) ≡ true → list_any (is_on p) (map task_of pre) ≡ false → pre ≡ []
         go [] first none = refl
-        go (h ∷ pre) first none = absurd (true≢false (sym first ∙ (or_parts (is_on p (task_of h)) (any (is_on p) (map task_of pre)) none).0))
+        go (h ∷ pre) first none = absurd (true≢false (sym first ∙ (or_parts (is_on p (task_of h)) (list_any (is_on p) (map task_of pre)) none).0))
 
     head-held : is_head p s.order ≡ true → Held ws x.done (x.here ∷ x.post) s.memory
     head-held head = subst (λ (pre : List Entry). Held ws x.done (pre ++ x.here ∷ x.post) s.memory) (front-empty head) x.held
@@ -239,15 +240,15 @@ module _ (ws : List ℕ) (b : Book) (s : Plain) where
 accepted-together : (ws : List ℕ) (b : Book) (s : Plain) (t : Turn) → Together ws b s → Passed (conditions s t) → Together ws (accepted b t (given s t)) (moved s t)
 accepted-together ws b s (Start p) i c = start-together ws b s p (length s.order) i
 accepted-together ws b s (Load p a) i c =
-    load-together ws b s p (spot ws b s p i (not-false (any (is_on p) s.order) c.1.0)) a
+    load-together ws b s p (spot ws b s p i (not-false (list_any (is_on p) s.order) c.1.0)) a
     (subst (λ (n : ℕ). a < n) i.held.size (leb-false (length s.memory) a c.1.1.0))
-accepted-together ws b s (Store p a w) i c = store-together ws b s p (spot ws b s p i (not-false (any (is_on p) s.order) c.1.0)) a w
+accepted-together ws b s (Store p a w) i c = store-together ws b s p (spot ws b s p i (not-false (list_any (is_on p) s.order) c.1.0)) a w
 accepted-together ws b s (Squash p) i c =
-    squash-together ws b s p (spot ws b s p i (not-false (any (is_on p) s.order) c.1.0)) (given s (Squash p)) c.1.1.0
+    squash-together ws b s p (spot ws b s p i (not-false (list_any (is_on p) s.order) c.1.0)) (given s (Squash p)) c.1.1.0
 accepted-together ws b s (Commit p) i c =
-    commit-together ws b s p (spot ws b s p i (not-false (any (is_on p) s.order) c.1.0)) (given s (Commit p)) (not-false (is_head p s.order) c.1.1.0)
+    commit-together ws b s p (spot ws b s p i (not-false (list_any (is_on p) s.order) c.1.0)) (given s (Commit p)) (not-false (is_head p s.order) c.1.1.0)
 accepted-together ws b s (Replace p a) i c =
-    replace-together ws b s p (spot ws b s p i (not-false (any (is_on p) s.order) c.1.0)) a (given s (Replace p a)) (not-false (is_head p s.order) c.1.1.1.0)
+    replace-together ws b s p (spot ws b s p i (not-false (list_any (is_on p) s.order) c.1.0)) a (given s (Replace p a)) (not-false (is_head p s.order) c.1.1.1.0)
 
 -- every turn does
 pub turn-together : (ws : List ℕ) (b : Book) (s : Plain) (t : Turn) → Together ws b s → Together ws (fed_one b t (answer_of s t)) (state_after s t)
@@ -267,5 +268,5 @@ answered-exact ws b s p a w n i e = go (refusal_of s (Store p a w)) refl e
     go None h e =
         let c = passed (conditions s (Store p a w)) h in
         let same : n ≡ given s (Store p a w) = cc in
-        subst (λ (m : ℕ). ExactSquash a (past (is_task_of p) b) m) (sym same) (store-exact ws b s p (spot ws b s p i (not-false (any (is_on p) s.order) c.1.0)) a w)
+        subst (λ (m : ℕ). ExactSquash a (past (is_task_of p) b) m) (sym same) (store-exact ws b s p (spot ws b s p i (not-false (list_any (is_on p) s.order) c.1.0)) a w)
     go (Some r) h e = let z : ◌≡◌ {A = ℕ} 0 1 = cc in absurd (omega arith)

@@ -1,11 +1,6 @@
 -- A list cut at its first element that passes a test, and tests of the numbers below n.
 use Rattle.std.specs.Prelude.{ℕ, zero, suc, ◌-◌, Bool, false, cond, ◌||◌, List, [], ◌∷◌, length, take}
 
--- some element passes
-abbrev pub any : {A : Type 0} → (A → Bool) → List A → Bool
-any f [] = false
-any f (x ∷ xs) = f x || any f xs
-
 -- the elements before the first that passes
 abbrev pub before : {A : Type 0} → (A → Bool) → List A → List A
 before f [] = []

@@ -1,13 +1,13 @@
 -- The plain store of versions: what every version store does.
 use Rattle.std.specs.Prelude.{ℕ, suc, ◌%◌, ◌<◌, Bool, false, cond, not, ◌&&◌, List, [], ◌∷◌, ◌++◌, map, length, Some, None, Ok, Err, Option, Result, ◌==◌, nat_le, nat_lt, slice_index, slice_set}
-use Rattle.std.specs.List.{range_with_len}
+use Rattle.std.specs.List.{range_with_len, list_any}
 use Rattle.memory.specs.Client.{count_below}
 use Rattle.versions.specs.declared.refusal.Refusal.{Refusal}
 use Rattle.versions.specs.declared.refusal.Refusal.TheVariants.{NoProcessor, TaskActive, NoTask, NoAddress, ClassTaken, NotHead, IsHead, NotHeld}
 use Rattle.versions.specs.declared.turn.Turn.{Turn}
 use Rattle.versions.specs.declared.turn.Turn.TheVariants.{Start, Load, Store, Squash, Commit, Replace}
 use Rattle.versions.specs.Refusals.{refusal_number}
-use Rattle.versions.specs.Cuts.{any, before, up_to, past, changed, but_last, any_below}
+use Rattle.versions.specs.Cuts.{before, up_to, past, changed, but_last, any_below}
 use Rattle.versions.specs.declared.version.Version.{Version}
 use Rattle.versions.specs.Versions.{no_version, is_own, is_held, with_load, with_store, laid_over, seen_by, squashed_by}
 
@@ -73,19 +73,19 @@ written_to (Some w) a ws = slice_set ws a w
 
 -- the conditions under which each turn is refused, in the order in which they are checked
 abbrev pub conditions : Plain → Turn → List (Bool × Refusal)
-conditions s (Start p) = (nat_le 4 p, NoProcessor) ∷ (any (is_on p) s.order, TaskActive) ∷ []
+conditions s (Start p) = (nat_le 4 p, NoProcessor) ∷ (list_any (is_on p) s.order, TaskActive) ∷ []
 conditions s (Load p a) =
-    (nat_le 4 p, NoProcessor) ∷ (not (any (is_on p) s.order), NoTask) ∷ (nat_le (length s.memory) a, NoAddress)
+    (nat_le 4 p, NoProcessor) ∷ (not (list_any (is_on p) s.order), NoTask) ∷ (nat_le (length s.memory) a, NoAddress)
     ∷ (holds_class (task_on p s.order) a (length s.memory), ClassTaken) ∷ []
 conditions s (Store p a w) =
-    (nat_le 4 p, NoProcessor) ∷ (not (any (is_on p) s.order), NoTask) ∷ (nat_le (length s.memory) a, NoAddress)
+    (nat_le 4 p, NoProcessor) ∷ (not (list_any (is_on p) s.order), NoTask) ∷ (nat_le (length s.memory) a, NoAddress)
     ∷ (holds_class (task_on p s.order) a (length s.memory), ClassTaken) ∷ []
 conditions s (Squash p) =
-    (nat_le 4 p, NoProcessor) ∷ (not (any (is_on p) s.order), NoTask) ∷ (is_head p s.order, IsHead) ∷ []
+    (nat_le 4 p, NoProcessor) ∷ (not (list_any (is_on p) s.order), NoTask) ∷ (is_head p s.order, IsHead) ∷ []
 conditions s (Commit p) =
-    (nat_le 4 p, NoProcessor) ∷ (not (any (is_on p) s.order), NoTask) ∷ (not (is_head p s.order), NotHead) ∷ []
+    (nat_le 4 p, NoProcessor) ∷ (not (list_any (is_on p) s.order), NoTask) ∷ (not (is_head p s.order), NotHead) ∷ []
 conditions s (Replace p a) =
-    (nat_le 4 p, NoProcessor) ∷ (not (any (is_on p) s.order), NoTask) ∷ (nat_le (length s.memory) a, NoAddress)
+    (nat_le 4 p, NoProcessor) ∷ (not (list_any (is_on p) s.order), NoTask) ∷ (nat_le (length s.memory) a, NoAddress)
     ∷ (not (is_head p s.order), NotHead) ∷ (not (is_held ((task_on p s.order).at a)), NotHeld) ∷ []
 
 -- the refusal of the first condition that holds

@@ -2,7 +2,7 @@
 -- together with an order of processors.
 use Rattle.std.specs.Prelude.{◌≡◌, ℕ, zero, suc, ◌+◌, ◌%◌, ◌<◌, Bool, true, false, cond, not, ◌&&◌, leb, List, [], ◌∷◌, map, length, is_some, Some, None, Ok, Err, Option, Result, ◌==◌, nat_eq, nat_le, nat_lt}
 use Rattle.memory.specs.Client.{count_below}
-use Rattle.std.specs.Option.{ok_or}
+use Rattle.std.specs.Option.{ok_or, option_or}
 use Rattle.versions.specs.declared.refusal.Refusal.{Refusal}
 use Rattle.versions.specs.declared.refusal.Refusal.TheVariants.{NoProcessor, TaskActive, NoTask, NoAddress, ClassTaken, NotHead, IsHead, NotHeld}
 use Rattle.versions.specs.declared.version.Version.{Version}
@@ -89,20 +89,15 @@ abbrev pub of_class : (ℕ → Bool) → ℕ → ℕ → Option ℕ
 of_class f c zero = None
 of_class f c (suc n) = cond (f n && n % 16 == c) (Some n) (of_class f c n)
 
--- the first of two, if there is one, else the second
-abbrev pub or_else : {A : Type 0} → Option A → Option A → Option A
-or_else (Some x) other = Some x
-or_else None other = other
-
 -- the last of some that passes a test
 abbrev pub last_that : {A : Type 0} → (A → Bool) → List A → Option A
 last_that f [] = None
-last_that f (x ∷ xs) = or_else (last_that f xs) (cond (f x) (Some x) None)
+last_that f (x ∷ xs) = option_or (last_that f xs) (cond (f x) (Some x) None)
 
 -- of the own words below n, the address of the one with the highest class below c
 abbrev pub last_own : (ℕ → Version) → ℕ → ℕ → Option ℕ
 last_own at n zero = None
-last_own at n (suc c) = or_else (of_class (λ a. is_own (at a)) c n) (last_own at n c)
+last_own at n (suc c) = option_or (of_class (λ a. is_own (at a)) c n) (last_own at n c)
 
 -- class c is written over what the classes below c made of the words ws: vs are the words then, and n own words were written
 pub record ClassWritten (at : ℕ → Version) (c : ℕ) (ws vs : List ℕ) (n : ℕ) : Type 0 where

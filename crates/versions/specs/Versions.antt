@@ -1,7 +1,7 @@
 -- What one task has at one address, and what follows from the versions of one address in task order. There is no
 -- address and no processor in here: every store speaks of an address through its column of versions.
 use Rattle.std.specs.Prelude.{ℕ, suc, Bool, false, cond, not, ◌||◌, List, [], ◌∷◌, length, is_some, Some, None, Option}
-use Rattle.std.specs.Option.{unwrap_or}
+use Rattle.std.specs.Option.{unwrap_or, option_or}
 use Rattle.versions.specs.declared.version.Version.{Version}
 
 abbrev pub no_version : Version
@@ -38,10 +38,6 @@ squashed_by [] = 0
 squashed_by (v ∷ vs) = cond v.mark (suc (length vs)) (cond (is_own v) 0 (squashed_by vs))
 
 -- the own word of the last of these tasks that has one
-abbrev pub or_earlier : Option ℕ → Option ℕ → Option ℕ
-or_earlier (Some w) earlier = Some w
-or_earlier None earlier = earlier
-
 abbrev pub nearest_own : List Version → Option ℕ
 nearest_own [] = None
-nearest_own (v ∷ vs) = or_earlier (nearest_own vs) v.own
+nearest_own (v ∷ vs) = option_or (nearest_own vs) v.own

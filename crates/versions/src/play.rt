@@ -41,7 +41,7 @@ pub fn play_turns<S: VersionStore>(
     ensures answers { answers.new ≡ answers_of (S.VersionStore.plain store.old) (take (turns_played turns.now answers.old) turns.now) ++ drop (turns_played turns.now answers.old) answers.old }
     ensures after { S.VersionStore.plain store.new ≡ state_after_all (S.VersionStore.plain store.old) (take (turns_played turns.now answers.old) turns.now) }
     ensures sequential { ReadsOn (S.VersionStore.plain store.old) (paired turns.now answers.new) (S.VersionStore.plain store.new) }
-    ensures shows { ShowsAll S.VersionStore.shows store.old (take (turns_played turns.now answers.old) turns.now) store.new }
+    ensures shows { ShowsAll S.VersionStore.plain S.VersionStore.shows store.old (take (turns_played turns.now answers.old) turns.now) store.new }
     ensures beside { S.VersionStore.spare store.new ≡ S.VersionStore.spare store.old }
     ensures kept { S.VersionStore.sound store.new }
 {

@@ -1,6 +1,6 @@
 // What a version store is: anything that answers every turn as the plain store of specs/Plain.antt does. Whatever is
 // built above is proved once, against these contracts, and holds for every version store over every memory.
-ghost use Rattle.std.specs.Prelude.{◌≡◌, ℕ, ◌≤◌, List, length};
+ghost use Rattle.std.specs.Prelude.{◌≡◌, ℕ, ◌≤◌, false, List, length, is_ok};
 ghost use Rattle.versions.specs.declared.turn.Turn.{Turn};
 ghost use Rattle.versions.specs.declared.turn.Turn.TheVariants.{Start, Load, Store, Squash, Commit, Replace};
 ghost use Rattle.versions.specs.Plain.{Plain, opened, memory_words, active_tasks, word_of};
@@ -73,6 +73,7 @@ pub trait VersionStore: Sized {
         requires { sound self.old }
         ensures answer { result ≡ word_of (plain self.old) a }
         ensures after { plain self.new ≡ plain self.old }
+        ensures refused { is_ok result ≡ false → self.new ≡ self.old }
         ensures beside { spare self.new ≡ spare self.old }
         ensures kept { sound self.new };
 

@@ -1,9 +1,10 @@
 // Writing own words of a task to memory. `Fitting` is asked of a table and a size, and is no fact of a table, which does not know
 // its memory.
 ghost use Rattle.std.specs.Prelude.{◌≡◌, ℕ, ◌+◌, ◌^◌, ◌<◌, ◌≤◌, List, length, is_some, if◌then◌else◌, Some, None};
+ghost use Rattle.std.specs.Option.{option_or};
 ghost use Rattle.memory.specs.Client.{count_below};
 ghost use Rattle.versions.specs.Plain.{laid_over_all, written_to};
-ghost use Rattle.versions.specs.Tables.{Fitting, up_to_class, of_class, or_else, last_own, ClassWritten};
+ghost use Rattle.versions.specs.Tables.{Fitting, up_to_class, of_class, last_own, ClassWritten};
 ghost use Rattle.versions.specs.Versions.{is_own};
 
 use crate::processor::{Class, Processor};
@@ -24,7 +25,7 @@ impl WrittenBack {
     fn and(self, later: WrittenBack) -> WrittenBack
         requires { self.words + later.words < 2 ^ 32 }
         ensures words { result.words ≡ self.words + later.words }
-        ensures last { result.last ≡ or_else later.last self.last }
+        ensures last { result.last ≡ option_or later.last self.last }
     {
         WrittenBack {
             words: self.words + later.words,

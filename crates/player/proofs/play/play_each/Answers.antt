@@ -31,7 +31,7 @@ loop-i-preserved g c =
       ),
       subst (λ (k : ℕ). i + 1 ≤ k - length (content l₀)) inv.2.2 a.2,
       c.take_turn.ensures.beside ∙ inv.4,
-      shows-step m.shows c.args.store.now c.loop-i.store c.take_turn.new.self ts i (Start 0) inside inv.5 c.take_turn.ensures.shows,
+      shows-step m.plain m.shows c.args.store.now c.loop-i.store c.take_turn.new.self ts i (Start 0) inside inv.5 c.take_turn.ensures.after c.take_turn.ensures.shows,
     )
 
 pub returns-then-is_full : goal.returns-then-is_full
@@ -53,7 +53,7 @@ returns-then-is_full g c =
         inv.2.2,
       );
       after = inv.1 ∙ ap (λ (k : ℕ). state_after_all s (take k ts)) all;
-      shows = subst (λ (k : ℕ). ShowsAll m.shows c.args.store.now (take k ts) c.loop-i.store) all inv.5;
+      shows = subst (λ (k : ℕ). ShowsAll m.plain m.shows c.args.store.now (take k ts) c.loop-i.store) all inv.5;
       beside = inv.4;
       kept = inv.0;
     }

@@ -14,4 +14,4 @@ invariant-loop-i g l =
     × Gained l.initial.answers (answers_of (m.plain l.initial.store) (take l.i l.turns)) l.answers
     × (l.i ≤ free l.initial.answers)
     × (m.spare l.store ≡ m.spare l.initial.store)
-    × ShowsAll m.shows l.initial.store (take l.i l.turns) l.store
+    × ShowsAll m.plain m.shows l.initial.store (take l.i l.turns) l.store

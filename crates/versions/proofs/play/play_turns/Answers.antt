@@ -21,7 +21,7 @@ loop-i-preserved g c =
       c.take_turn.ensures.beside ∙ c.loop-i.invariant.3,
       omega (arith, same),
       same ∙ c.loop-i.invariant.5,
-      shows-step m.shows c.args.store.now c.loop-i.store c.take_turn.new.self ts i (Start 0) inside c.loop-i.invariant.6 c.take_turn.ensures.shows,
+      shows-step m.plain m.shows c.args.store.now c.loop-i.store c.take_turn.new.self ts i (Start 0) inside c.loop-i.invariant.6 c.take_turn.ensures.after c.take_turn.ensures.shows,
     )
 
 pub returns-then-i-answers-clause-sequential : goal.returns-then-i-answers-clause-sequential

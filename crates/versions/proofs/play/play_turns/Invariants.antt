@@ -13,4 +13,4 @@ invariant-loop-i g l =
     × (m.spare l.store ≡ m.spare l.initial.store)
     × (l.i ≤ length l.answers)
     × (length l.answers ≡ length l.initial.answers)
-    × ShowsAll m.shows l.initial.store (take l.i l.turns) l.store
+    × ShowsAll m.plain m.shows l.initial.store (take l.i l.turns) l.store

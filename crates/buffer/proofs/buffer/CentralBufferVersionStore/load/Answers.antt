@@ -1,4 +1,4 @@
-use Rattle.std.proofs.Common.{ℕ, length, Ok, Err, sym, ap, ◌∙◌, subst}
+use Rattle.std.proofs.Common.{ℕ, length, Err, sym, ap, ◌∙◌, subst}
 use Rattle.std.proofs.lemmas.Result.{err_from_is_err_and}
 use Rattle.buffer.specs.declared.tasks.Tasks.{Tasks}
 use Rattle.versions.specs.declared.turn.Turn.TheVariants.{Load}
@@ -49,7 +49,7 @@ returns g c =
     let table = table_of b.tasks in
     let same = c.seen.ensures.tasks in
     let at = at-processor c.args.p c.in_ok-p.p c.in_ok-p.k (λ (p : ℕ). access_place c.size.result ps table p a) c.in_ok-p.ensures in
-    turn-served m.words m.sound m.spare b (λ (p : ℕ). Load p a) c.args.p c.in_ok-p.p (Ok c.in_ok-w.w) _ at.0
+    turn-served m.words m.sound m.spare b (λ (p : ℕ). Load p a) c.args.p c.in_ok-p.p c.in_ok-w.w _ at.0
     (serve-load (m.words b.memory) ps table c.requires.apart c.requires.fits c.in_ok-p.p a c.in_ok-p.k c.in_ok-w.w
     (m.words c.seen.new.self.memory) c.put.new.self.order (table_of c.put.new.self)
     (at.1 ∙ ap (λ (n : ℕ). access_place n ps table c.in_ok-p.p a) c.size.ensures)

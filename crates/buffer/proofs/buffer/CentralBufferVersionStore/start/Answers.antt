@@ -1,4 +1,4 @@
-use Rattle.std.proofs.Common.{ℕ, Ok, Err, refl, ap, ◌∙◌}
+use Rattle.std.proofs.Common.{ℕ, Err, refl, ap, ◌∙◌}
 use Rattle.std.proofs.lemmas.Result.{err_from_is_err_and}
 use Rattle.versions.specs.declared.turn.Turn.TheVariants.{Start}
 use Rattle.versions.specs.Tables.{start_place}
@@ -21,7 +21,7 @@ returns g c =
     let m = g.M.Memory in
     let b = c.args.self.now in
     let at = at-processor c.args.p c.in_ok-p.p c.in_ok-p.active (start_place b.tasks.order) c.in_ok-p.ensures.value in
-    turn-served m.words m.sound m.spare b (λ (p : ℕ). Start p) c.args.p c.in_ok-p.p (Ok c.in_ok-p.active) _ at.0
+    turn-served m.words m.sound m.spare b (λ (p : ℕ). Start p) c.args.p c.in_ok-p.p c.in_ok-p.active _ at.0
     (serve-start (m.words b.memory) b.tasks.order (table_of b.tasks) c.requires.apart c.requires.fits c.in_ok-p.p c.in_ok-p.active
     c.append.new.self.order (table_of c.append.new.self) at.1 c.append.ensures.order c.append.ensures.table)
     c.requires.memory refl

@@ -1,4 +1,4 @@
-use Rattle.std.proofs.Common.{◌≡◌, ℕ, ◌-◌, length, take, drop, Ok, Err, sym, refl, ap, ◌∙◌, subst, arith}
+use Rattle.std.proofs.Common.{◌≡◌, ℕ, ◌-◌, length, take, drop, Err, sym, refl, ap, ◌∙◌, subst, arith}
 use Rattle.std.proofs.lemmas.Result.{err_from_is_err_and}
 use Rattle.versions.specs.declared.turn.Turn.TheVariants.{Store}
 use Rattle.buffer.specs.Rows.{HoldsNoOther}
@@ -80,7 +80,7 @@ returns g c =
     let hit = hit-is table ps c.in_ok-p.k a c.squashed-hit.result c.squashed-hit.ensures in
     let long = c.len-active.ensures.value ∙ ap length c.order.ensures in
     let left : c.len-active.result - c.squashed-hit.result ≡ length ps - c.squashed-hit.result = ap (λ (n : ℕ). n - c.squashed-hit.result) long in
-    turn-served m.words m.sound m.spare b (λ (p : ℕ). Store p a w) c.args.p c.in_ok-p.p (Ok c.squashed-hit.result) _ at.0
+    turn-served m.words m.sound m.spare b (λ (p : ℕ). Store p a w) c.args.p c.in_ok-p.p c.squashed-hit.result _ at.0
     (serve-store (m.words b.memory) ps table c.requires.apart c.requires.fits c.in_ok-p.p a w c.in_ok-p.k c.squashed-hit.result
     c.put.new.self.order (table_of c.cut.new.self) (table_of c.put.new.self)
     (at.1 ∙ ap (λ (n : ℕ). access_place n ps table c.in_ok-p.p a) c.size.ensures) hit

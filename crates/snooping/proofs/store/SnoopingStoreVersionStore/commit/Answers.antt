@@ -1,4 +1,4 @@
-use Rattle.std.proofs.Common.{ℕ, Ok, Err, ap, ◌∙◌}
+use Rattle.std.proofs.Common.{ℕ, Err, ap, ◌∙◌}
 use Rattle.std.proofs.lemmas.Result.{err_from_is_err_and}
 use Rattle.versions.specs.declared.turn.Turn.TheVariants.{Commit}
 use Rattle.versions.specs.Tables.{commit_place}
@@ -21,7 +21,7 @@ returns g c =
     let s = c.args.self.now in
     let at = at-processor c.args.p c.in_ok-p.p c.in_ok-p.field-0-1 (commit_place (processors_of s.caches)) c.in_ok-p.ensures in
     let wrote = c.write_back-wrote in
-    took m.words m.sound m.spare s (λ (p : ℕ). Commit p) c.args.p c.in_ok-p.p (Ok wrote.result.words) _ at.0
+    took m.words m.sound m.spare s (λ (p : ℕ). Commit p) c.args.p c.in_ok-p.p wrote.result.words _ at.0
     (turn-commit m.words s c.requires c.in_ok-p.p c.in_ok-p.field-0-1 wrote.result.words wrote.result.last
     (m.words wrote.new.memory) (processors_of c.retire.new.self) c.retire.new.self.list c.written_back-self.result at.1 wrote.ensures.count wrote.ensures.last wrote.ensures.words
     c.retire.ensures.order c.retire.ensures.lines c.retire.new.self.wide c.written_back-self.ensures) wrote.ensures.kept wrote.ensures.beside

@@ -34,7 +34,7 @@ returns-then-is_held g c =
     let at = at-processor c.args.p c.in_ok-p.p c.in_ok-p.k (λ (p : ℕ). access_place c.size.result (processors_of s.caches) (table_of s.caches) p c.args.a) c.in_ok-p.ensures in
     let line = c.line-line.ensures ∙ ap (lines_in s.caches c.in_ok-p.p) c.of.ensures in
     let version = c.version.ensures ∙ ap (λ (x : Line). version_at x c.args.a) line in
-    took m.words m.sound m.spare s (λ (p : ℕ). Load p c.args.a) c.args.p c.in_ok-p.p (Ok c.line-line.result.word) _ at.0
+    took m.words m.sound m.spare s (λ (p : ℕ). Load p c.args.a) c.args.p c.in_ok-p.p c.line-line.result.word _ at.0
     (turn-load-hit m.words s c.requires c.in_ok-p.p c.args.a c.in_ok-p.k c.line-line.result.word c.quiet-self.result
     (at.1 ∙ ap (λ (n : ℕ). access_place n (processors_of s.caches) (table_of s.caches) c.in_ok-p.p c.args.a) c.size.ensures)
     (ap is_held (sym version) ∙ (sym c.is_held.ensures ∙ c.if-is_held.true)) (ap (λ (x : Line). x.word) line) c.quiet-self.ensures) c.requires.memory refl
@@ -57,7 +57,7 @@ returns g c =
     let w = c.in_ok-w.w in
     let nearest = last_that (λ (q : ℕ). is_own (table_of s.caches q a)) (take c.in_ok-p.k (processors_of s.caches)) in
     let given : (w, c.in_ok-w.supplier) ≡ (supplied_word (lines_in s.caches) (a % 16) (get_or (m.words s.memory) a 0) nearest, supplied_by nearest) = same_pair _ _ c.in_ok-w.ensures.answer in
-    took m.words m.sound m.spare s (λ (p : ℕ). Load p a) c.args.p c.in_ok-p.p (Ok w) _ at.0
+    took m.words m.sound m.spare s (λ (p : ℕ). Load p a) c.args.p c.in_ok-p.p w _ at.0
     (turn-load-miss m.words s c.requires c.in_ok-p.p a c.in_ok-p.k w nearest
     (m.words c.supplied.new.memory) (processors_of c.take_and_relink.new.self) c.take_and_relink.new.self.list c.bus_read-self.result
     (at.1 ∙ ap (λ (n : ℕ). access_place n (processors_of s.caches) (table_of s.caches) c.in_ok-p.p c.args.a) c.size.ensures)

@@ -1,4 +1,4 @@
-use Rattle.std.proofs.Common.{◌≡◌, ℕ, cond, length, is_some, Some, None, Ok, Err, Option, refl, ap, ◌∙◌}
+use Rattle.std.proofs.Common.{◌≡◌, ℕ, cond, length, is_some, Some, None, Err, Option, refl, ap, ◌∙◌}
 use Rattle.std.proofs.lemmas.Result.{err_from_is_err_and}
 use Rattle.versions.specs.declared.turn.Turn.TheVariants.{Replace}
 use Rattle.versions.specs.declared.version.Version.{Version}
@@ -31,7 +31,7 @@ returns g c =
     let n = c.write_own-wrote.result.words in
     let held = c.version-own.result.own in
     let own : held ≡ (table_of s.caches c.in_ok-p.p c.args.a).own = ap (λ (v : Version). v.own) c.version-own.ensures in
-    took m.words m.sound m.spare s (λ (p : ℕ). Replace p c.args.a) c.args.p c.in_ok-p.p (Ok n) _ at.0
+    took m.words m.sound m.spare s (λ (p : ℕ). Replace p c.args.a) c.args.p c.in_ok-p.p n _ at.0
     (turn-replace m.words s c.requires c.in_ok-p.p c.args.a c.in_ok-p.field-0-1 n
     (m.words c.write_own-wrote.new.memory) (processors_of c.end_line.new.self) c.end_line.new.self.list c.written_back-self.result
     (at.1 ∙ ap (λ (n : ℕ). replace_place n (processors_of s.caches) (table_of s.caches) c.in_ok-p.p c.args.a) c.size.ensures)

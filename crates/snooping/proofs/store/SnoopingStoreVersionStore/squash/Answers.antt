@@ -1,4 +1,4 @@
-use Rattle.std.proofs.Common.{ℕ, ◌-◌, length, Ok, Err, refl, ap, ◌∙◌, arith}
+use Rattle.std.proofs.Common.{ℕ, ◌-◌, length, Err, refl, ap, ◌∙◌, arith}
 use Rattle.std.proofs.lemmas.Result.{err_from_is_err_and}
 use Rattle.versions.specs.declared.turn.Turn.TheVariants.{Squash}
 use Rattle.versions.specs.Tables.{squash_place}
@@ -32,7 +32,7 @@ returns g c =
     let m = g.M.Memory in
     let s = c.args.self.now in
     let at = at-processor c.args.p c.in_ok-k.field-0-0 c.in_ok-k.k (squash_place (processors_of s.caches)) c.in_ok-k.ensures in
-    took m.words m.sound m.spare s (λ (p : ℕ). Squash p) c.args.p c.in_ok-k.field-0-0 (Ok (c.len-active.result - c.in_ok-k.k)) _ at.0
+    took m.words m.sound m.spare s (λ (p : ℕ). Squash p) c.args.p c.in_ok-k.field-0-0 (c.len-active.result - c.in_ok-k.k) _ at.0
     (turn-squash m.words s c.requires c.in_ok-k.field-0-0 c.in_ok-k.k
     (c.len-active.result - c.in_ok-k.k) (processors_of c.cut.new.self) c.cut.new.self.list c.quiet-self.result at.1
     (ap (λ (n : ℕ). n - c.in_ok-k.k) (c.len-active.ensures.value ∙ ap length c.order.ensures)) c.cut.ensures.order c.cut.ensures.lines c.cut.new.self.wide c.quiet-self.ensures) c.requires.memory refl

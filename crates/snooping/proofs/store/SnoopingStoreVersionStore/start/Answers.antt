@@ -1,4 +1,4 @@
-use Rattle.std.proofs.Common.{ℕ, Ok, Err, refl, ap, ◌∙◌}
+use Rattle.std.proofs.Common.{ℕ, Err, refl, ap, ◌∙◌}
 use Rattle.std.proofs.lemmas.Result.{err_from_is_err_and}
 use Rattle.versions.specs.declared.turn.Turn.TheVariants.{Start}
 use Rattle.versions.specs.Tables.{start_place}
@@ -20,7 +20,7 @@ returns g c =
     let m = g.M.Memory in
     let s = c.args.self.now in
     let at = at-processor c.args.p c.in_ok-p.p c.in_ok-p.active (start_place (processors_of s.caches)) c.in_ok-p.ensures.value in
-    took m.words m.sound m.spare s (λ (p : ℕ). Start p) c.args.p c.in_ok-p.p (Ok c.in_ok-p.active) _ at.0
+    took m.words m.sound m.spare s (λ (p : ℕ). Start p) c.args.p c.in_ok-p.p c.in_ok-p.active _ at.0
     (turn-start m.words s c.requires c.in_ok-p.p c.in_ok-p.active
     (processors_of c.append.new.self) c.append.new.self.list c.quiet-self.result
     at.1 c.append.ensures.order c.append.ensures.list c.quiet-self.ensures) c.requires.memory refl

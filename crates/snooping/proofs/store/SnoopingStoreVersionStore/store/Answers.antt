@@ -1,4 +1,4 @@
-use Rattle.std.proofs.Common.{◌≡◌, ℕ, suc, ◌%◌, true, false, not, ◌&&◌, List, length, drop, is_some, Ok, Err, sym, refl, ap, ◌∙◌, add-one, arith}
+use Rattle.std.proofs.Common.{◌≡◌, ℕ, suc, ◌%◌, true, false, not, ◌&&◌, List, length, drop, is_some, Err, sym, refl, ap, ◌∙◌, add-one, arith}
 use Rattle.std.proofs.lemmas.Result.{err_from_is_err_and}
 use Rattle.versions.specs.declared.turn.Turn.TheVariants.{Store}
 use Rattle.versions.specs.Tables.{access_place, with_processor}
@@ -33,7 +33,7 @@ returns-then-takes_store g c =
     let next = (lines_in s.caches c.in_ok-p.p (c.args.a % 16)).next in
     let test : (own && not (is_some next)) ≡ true = ap (λ (x : Line). is_own (version_at x c.args.a) && not (is_some x.next)) (sym line) ∙ (sym c.takes_store.ensures ∙ c.if-takes_store.true) in
     let parts = hit-parts own next test in
-    took m.words m.sound m.spare s (λ (p : ℕ). Store p c.args.a c.args.w) c.args.p c.in_ok-p.p (Ok 0) _ at.0
+    took m.words m.sound m.spare s (λ (p : ℕ). Store p c.args.a c.args.w) c.args.p c.in_ok-p.p 0 _ at.0
     (turn-store-hit m.words s c.requires c.in_ok-p.p c.args.a c.args.w c.in_ok-p.k
     (processors_of c.take.new.self) c.take.new.self.list c.quiet-self.result
     (at.1 ∙ ap (λ (n : ℕ). access_place n (processors_of s.caches) (table_of s.caches) c.in_ok-p.p c.args.a) c.size.ensures)
@@ -78,7 +78,7 @@ returns g c =
     ap (λ (x : Line). is_own (version_at x c.args.a) && not (is_some x.next)) (sym line) ∙ (sym c.takes_store.ensures ∙ c.if-takes_store.false) in
     let cut = after-cut m.words s c.requires n c.cut_last.new.self.list c.cut_last.ensures.none c.cut_last.ensures.some in
     let mid = lines_in c.cut_last.new.self in
-    took m.words m.sound m.spare s (λ (p : ℕ). Store p c.args.a c.args.w) c.args.p c.in_ok-p.p (Ok n) _ at.0
+    took m.words m.sound m.spare s (λ (p : ℕ). Store p c.args.a c.args.w) c.args.p c.in_ok-p.p n _ at.0
     (turn-store-miss m.words s c.requires c.in_ok-p.p c.args.a c.args.w k n
     c.invalidated-mask.result mid (processors_of c.take_and_relink.new.self) c.take_and_relink.new.self.list c.bus_write-self.result
     (at.1 ∙ ap (λ (n : ℕ). access_place n (processors_of s.caches) (table_of s.caches) c.in_ok-p.p c.args.a) c.size.ensures)
