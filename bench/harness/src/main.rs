@@ -1,0 +1,104 @@
+//! Compares the model's library for C with the independent implementation.
+//!
+//!     harness [--break WHAT] [SEED [RUNS]]   random runs and listings (default: 1 10000)
+//!     harness speed                          turns a second of both, as a table
+//!     harness once SIDE STORE MIX WORDS TIMES   one list of turns, for a profiler: SIDE model or independent,
+//!                                            STORE snooping or buffer, MIX hits, violations or refusals
+
+mod counts;
+mod model;
+#[cfg(feature = "player")]
+mod player;
+mod runs;
+mod speed;
+mod twist;
+
+use counts::{grouped, Summary};
+use independent::Kind;
+use std::process::exit;
+use std::time::Instant;
+use twist::Twist;
+
+fn usage() -> ! {
+    eprintln!("harness [--break WHAT] [SEED [RUNS]] | harness speed");
+    exit(2);
+}
+
+fn main() {
+    let mut args: Vec<String> = std::env::args().skip(1).collect();
+    match args.first().map(String::as_str) {
+        Some("speed") if args.len() == 1 => return speed::table(),
+        Some("once") => return speed::once(&args[1..]).unwrap_or_else(|| usage()),
+        _ => {}
+    }
+    let mut twist = None;
+    if args.first().is_some_and(|arg| arg == "--break") {
+        let name = args.get(1).cloned().unwrap_or_default();
+        twist = Twist::named(&name);
+        if twist.is_none() {
+            eprintln!("--break takes one of: {}", Twist::ALL.map(|(name, _)| name).join(", "));
+            exit(2);
+        }
+        args.drain(..2);
+    }
+    let numbers: Option<Vec<u64>> = args.iter().map(|arg| arg.parse().ok()).collect();
+    let (seed, count) = match numbers.as_deref() {
+        Some([]) => (1, 10_000),
+        Some(&[seed]) => (seed, 10_000),
+        Some(&[seed, count]) => (seed, count),
+        _ => usage(),
+    };
+    compare(seed, count, twist);
+}
+
+fn compare(seed: u64, count: u64, twist: Option<Twist>) {
+    let clock = Instant::now();
+    println!("seeds {seed} to {}", seed.saturating_add(count).saturating_sub(1));
+    let mut commands = counts::Commands::default();
+    for i in 0..count {
+        let seed = seed.wrapping_add(i);
+        for kind in [Kind::Snooping, Kind::Buffer] {
+            let case = runs::Case::random(seed, kind);
+            if runs::check(&case, twist, &mut commands).is_err() {
+                run_differs(seed, &case, twist);
+            }
+        }
+        if (i + 1) % (count / 10).max(1) == 0 {
+            println!("{} of {} seeds, {} turns, no difference", grouped(i + 1), grouped(count), grouped(commands.total()));
+        }
+    }
+    let mut summary = Summary::default();
+    commands.tell(&mut summary);
+    println!();
+    println!("Lists of commands: {} turns", grouped(commands.total()));
+    for line in summary.lines.drain(..) {
+        println!("  {line}");
+    }
+    println!();
+    match &summary.missing[..] {
+        [] => println!("Every case of this summary occurred."),
+        missing => println!("Cases that did not occur: {}", missing.join("; ")),
+    }
+    println!("No difference, in {:.1} seconds.", clock.elapsed().as_secs_f64());
+}
+
+fn run_differs(seed: u64, case: &runs::Case, twist: Option<Twist>) -> ! {
+    let name = match case.kind {
+        Kind::Snooping => "model_snooping",
+        _ => "model_central",
+    };
+    println!("DIFFERENCE in {name} at seed {seed} (again: harness {seed} 1)");
+    match runs::smallest_prefix(case, twist) {
+        Some((prefix, difference)) => {
+            println!("Smallest prefix that shows it: {} of {} turns", prefix.turns.len(), case.turns.len());
+            runs::print(&prefix, &difference);
+            let (small, difference) = runs::without_needless_turns(&prefix, twist);
+            if small.turns.len() < prefix.turns.len() {
+                println!("Of these turns, {} are enough for a difference", small.turns.len());
+                runs::print(&small, &difference);
+            }
+        }
+        None => println!("It did not show again: the model does not always answer alike."),
+    }
+    exit(1);
+}
