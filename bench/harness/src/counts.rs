@@ -49,6 +49,8 @@ pub fn grouped(n: u64) -> String {
 #[derive(Default)]
 pub struct Commands {
     pub calls: [u64; 2],
+    /// Calls with turns alone, and with no command at all.
+    pub alone: [u64; 2],
     pub sizes: [u64; 8],
     /// By what the call returned: 0, 16, 17; and 17 where there were too few replies as well.
     pub outcomes: [u64; 4],
@@ -114,6 +116,7 @@ impl Commands {
 
     pub fn tell(&self, out: &mut Summary) {
         out.list("calls", &["model_snooping", "model_central"], &self.calls);
+        out.list("calls where nothing else is asked", &["turns alone", "no command at all"], &self.alone);
         out.list("calls by number of words", &SIZES.map(|(name, _)| name), &self.sizes);
         let outcomes = ["carried out", "refused with 16", "refused with 17", "refused with 17 where 16 holds too"];
         out.list("calls by outcome", &outcomes, &self.outcomes);

@@ -94,6 +94,22 @@ extern "C" {
         replies: *mut Reply,
         reply_count: usize,
     ) -> u32;
+    fn model_play_snooping(
+        image: *const u8,
+        image_length: usize,
+        text: *const u8,
+        text_length: usize,
+        listing: *mut u8,
+        room: usize,
+    ) -> usize;
+    fn model_play_central(
+        image: *const u8,
+        image_length: usize,
+        text: *const u8,
+        text_length: usize,
+        listing: *mut u8,
+        room: usize,
+    ) -> usize;
 }
 
 /// A whole run of the model's store of this kind.
@@ -116,28 +132,7 @@ pub fn run(kind: Kind, words: &mut [u32], commands: &[Command], replies: &mut [R
     }
 }
 
-#[cfg(feature = "player")]
-extern "C" {
-    fn model_play_snooping(
-        image: *const u8,
-        image_length: usize,
-        text: *const u8,
-        text_length: usize,
-        listing: *mut u8,
-        room: usize,
-    ) -> usize;
-    fn model_play_central(
-        image: *const u8,
-        image_length: usize,
-        text: *const u8,
-        text_length: usize,
-        listing: *mut u8,
-        room: usize,
-    ) -> usize;
-}
-
 /// The listing's length; it is written where it is not above the row's.
-#[cfg(feature = "player")]
 pub fn play(kind: Kind, image: &[u8], text: &[u8], listing: &mut [u8]) -> usize {
     let call = match kind {
         Kind::Snooping => model_play_snooping,

@@ -125,6 +125,10 @@ impl Counts {
         }
     }
 
+    pub fn total(&self) -> u64 {
+        self.calls.iter().sum()
+    }
+
     pub fn tell(&self, out: &mut Summary) {
         out.list("calls", &["model_play_snooping", "model_play_central", "with too little room"], &[self.calls[0], self.calls[1], self.without_room]);
         let [listings, f9, f10, f11, f12, f13, f14, f15, f16] = self.faults;
@@ -196,7 +200,8 @@ pub fn check(case: &Case, twist: Option<Twist>, counts: &mut Counts) -> Result<(
     Ok(())
 }
 
-/// The shortest prefix of the text that still differs, then over an image of no pair if that does too.
+/// The shortest prefix of the text that still differs; then over an image of no pair if that does too, else over the shortest
+/// prefix of the image.
 pub fn smallest_prefix(case: &Case, twist: Option<Twist>) -> Option<(Case, Difference)> {
     let look = |case: Case| {
         let difference = check(&case, twist, &mut Counts::default()).err()?;
@@ -204,20 +209,26 @@ pub fn smallest_prefix(case: &Case, twist: Option<Twist>) -> Option<(Case, Diffe
     };
     let (mut small, mut difference) =
         (0..=case.text.len()).find_map(|length| look(Case { text: case.text[..length].to_vec(), ..case.clone() }))?;
-    if let Some(found) = look(Case { image: vec![0; 4], ..small.clone() }) {
+    let of_image = |length: usize| Case { image: small.image[..length].to_vec(), ..small.clone() };
+    let shorter = look(Case { image: vec![0; 4], ..small.clone() })
+        .or_else(|| (0..small.image.len()).find_map(|length| look(of_image(length))));
+    if let Some(found) = shorter {
         (small, difference) = found;
     }
     Some((small, difference))
 }
 
 pub fn print(case: &Case, difference: &Difference) {
-    let image: Vec<String> = case.image.iter().take(256).map(|byte| format!("{byte:02x}")).collect();
-    println!("image of {} bytes: {}{}", case.image.len(), image.join(" "), if case.image.len() > 256 { " ..." } else { "" });
+    let image: Vec<String> = case.image.iter().map(|byte| format!("{byte:02x}")).collect();
+    println!("image of {} bytes: {}", case.image.len(), image.join(" "));
     println!("text of {} bytes:", case.text.len());
     for line in case.text.split_inclusive(|&b| b == b'\n') {
         println!("    {}", line.escape_ascii());
     }
-    println!("room beside the listing's length: {:?}", case.room);
+    match case.room {
+        Some(more) => println!("room for the listing: its length and {more}"),
+        None => println!("room for the listing: more than enough"),
+    }
     println!("{}:", difference.asked);
     println!("  model:       {}", difference.model);
     println!("  independent: {}", difference.independent);

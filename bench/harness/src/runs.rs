@@ -18,6 +18,8 @@ pub struct Case {
     pub turns: Vec<Turn>,
     /// What else is asked after each turn, and what stands in fields that a command does not have.
     pub seed: u64,
+    /// Nothing else is asked: turns alone, perhaps none.
+    pub turns_alone: bool,
     /// How many replies there are beyond the commands; below 0, too few.
     pub spare: i64,
 }
@@ -71,7 +73,7 @@ impl Case {
             2..=20 => 0,
             _ => 1 + rng.below(5) as i64,
         };
-        Case { kind, words, turns, seed: rng.next(), spare }
+        Case { kind, words, turns, seed: rng.next(), turns_alone: rng.percent(15), spare }
     }
 
     pub fn commands(&self) -> Vec<Command> {
@@ -87,6 +89,9 @@ impl Case {
 
     /// What is asked after as many turns: all lines, the report, the number of tasks, some words, sometimes what is not there.
     fn ask(&self, played: usize, row: &mut Vec<Command>) {
+        if self.turns_alone {
+            return;
+        }
         let mut rng = Rng::new(self.seed.rotate_left(17) ^ (played as u64) << 32);
         let n = self.words.len() as u32;
         for p in 0..PROCESSORS as u32 {
@@ -253,6 +258,7 @@ pub fn check(case: &Case, twist: Option<Twist>, counts: &mut Commands) -> Result
         return differs(count, "what lies round the rows".into(), "changed".into(), "as it was".into());
     }
     counts.calls[(case.kind == Kind::Buffer) as usize] += 1;
+    counts.alone[commands.is_empty() as usize] += case.turns_alone as u64;
     counts.size(n);
     counts.outcomes[match (bad_size, too_few) {
         (true, true) => 3,

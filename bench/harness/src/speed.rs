@@ -1,5 +1,6 @@
 //! Turns a second: the model through its calls, and the independent stores over the same rows.
 
+use crate::counts::grouped;
 use crate::model::{self, command_of, turn_of, Command, Reply};
 use independent::generate::{turns, Mix};
 use independent::turn::Store;
@@ -58,17 +59,31 @@ struct Rows {
 }
 
 impl Rows {
-    /// Seconds for a turn, over at least a quarter of a second.
+    /// Seconds for a turn of the model and of the independent store: the best of the repetitions, which take turns.
+    fn best(&mut self, kind: Kind) -> (f64, f64) {
+        let (mut model, mut other) = (f64::MAX, f64::MAX);
+        for _ in 0..REPETITIONS {
+            model = model.min(self.time(Side::Model, kind));
+            other = other.min(self.time(Side::Independent, kind));
+        }
+        (model, other)
+    }
+
+    /// Seconds for a turn, or for a call where there is none, over at least a quarter of a second.
     fn time(&mut self, side: Side, kind: Kind) -> f64 {
-        let mut calls = 0u32;
+        // So many calls between two looks at the clock.
+        let calls_at_once = if self.commands.is_empty() { 1000 } else { 1 };
+        let mut calls = 0;
+        self.words.fill(0);
         let clock = Instant::now();
         loop {
-            self.words.fill(0);
-            play(side, kind, black_box(&mut self.words), black_box(&self.commands), black_box(&mut self.replies));
-            calls += 1;
+            for _ in 0..calls_at_once {
+                play(side, kind, black_box(&mut self.words), black_box(&self.commands), black_box(&mut self.replies));
+            }
+            calls += calls_at_once;
             let spent = clock.elapsed();
             if spent >= AT_LEAST {
-                return spent.as_secs_f64() / calls as f64 / self.commands.len() as f64;
+                return spent.as_secs_f64() / calls as f64 / self.commands.len().max(1) as f64;
             }
         }
     }
@@ -90,7 +105,7 @@ fn describe(rows: &Rows) -> String {
         }
     }
     let share = |count: u32| format!("{:.0} %", 100.0 * count as f64 / rows.commands.len() as f64);
-    format!("hits {}, turns that squash {}, refused {}, others {}", share(hits), share(squashing), share(refused), share(others))
+    [hits, squashing, refused, others].map(share).join(" | ")
 }
 
 /// 1234567.8 as 1.2, in millions.
@@ -118,16 +133,12 @@ pub fn table() {
                 });
                 assert!(answers[0] == answers[1], "the two sides differ at {store}, {name}, {size} words");
                 if kind == Kind::Snooping {
-                    told.push(format!("{name}, {size} words: {}", describe(&rows)));
+                    told.push(format!("| {name} | {} | {} |", grouped(size as u64), describe(&rows)));
                 }
-                let (mut model, mut other) = (f64::MAX, f64::MAX);
-                for _ in 0..REPETITIONS {
-                    model = model.min(rows.time(Side::Model, kind));
-                    other = other.min(rows.time(Side::Independent, kind));
-                }
+                let (model, other) = rows.best(kind);
                 println!(
                     "| {store} | {name} | {} | {} | {} | {:.2} |",
-                    crate::counts::grouped(size as u64),
+                    grouped(size as u64),
                     millions(model),
                     millions(other),
                     other / model
@@ -136,8 +147,24 @@ pub fn table() {
         }
     }
     println!();
+    println!("The mixes, by the replies of the snooping store:");
+    println!();
+    println!("| Mix | Words | Hits | Turns that squash | Refused | Others |");
+    println!("|---|---|---|---|---|---|");
     for line in told {
         println!("{line}");
+    }
+    println!();
+    println!("A call without a turn:");
+    println!();
+    println!("| Store | Words | Model, ns | Independent, ns |");
+    println!("|---|---|---|---|");
+    for (store, kind) in STORES {
+        for size in SIZES {
+            let mut rows = Rows { words: vec![0; size], commands: vec![], replies: vec![] };
+            let (model, other) = rows.best(kind);
+            println!("| {store} | {} | {:.0} | {:.0} |", grouped(size as u64), 1e9 * model, 1e9 * other);
+        }
     }
 }
 
