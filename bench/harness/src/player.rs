@@ -5,8 +5,9 @@ use crate::model;
 use crate::runs::Difference;
 use crate::twist::Twist;
 use independent::generate::{case, Rng};
-use independent::player::{play, LIST_ROOM, WORDS};
-use independent::Kind;
+use independent::player::{play_files, FILE_BYTES, LIST_ROOM, WORDS};
+use independent::text::line_of;
+use independent::{image::image_of, Kind, Turn};
 
 #[derive(Clone, Debug)]
 pub struct Case {
@@ -46,6 +47,15 @@ impl Case {
             9 => text.clear(),
             10 => image.clear(),
             11 => image = vec![0; 4],
+            // The longest listing, or nearly: a word at every address, and as many turns as the list takes, each with a long answer.
+            12 => {
+                let words: Vec<u32> = (0..WORDS).map(|_| u32::MAX - rng.below(1_000_000_000)).collect();
+                image = image_of(&[&[1, 0, WORDS as u32], &words[..]].concat());
+                text = line_of(Turn::Start(0)).into_bytes();
+                for _ in 1..LIST_ROOM {
+                    text.extend(line_of(Turn::Load(0, rng.below(16))).into_bytes());
+                }
+            }
             _ => {}
         }
         let room = match rng.below(6) {
@@ -97,14 +107,16 @@ pub struct Counts {
     pub turns: [u64; 9],
     pub at_lines: u64,
     pub bytes: u64,
+    pub longest: u64,
 }
 
 impl Counts {
     fn add(&mut self, case: &Case, listing: &[u8]) {
         self.calls[(case.kind == Kind::Buffer) as usize] += 1;
         self.bytes += listing.len() as u64;
-        self.long_images += (case.image.len() > 32_768) as u64;
-        self.long_texts += (case.text.len() > 32_768) as u64;
+        self.longest = self.longest.max(listing.len() as u64);
+        self.long_images += (case.image.len() > FILE_BYTES) as u64;
+        self.long_texts += (case.text.len() > FILE_BYTES) as u64;
         self.many_lines += (case.text.iter().filter(|&&b| b == b'\n').count() > LIST_ROOM) as u64;
         let listing = String::from_utf8_lossy(listing);
         let number = |word: Option<&str>| word.and_then(|word| word.parse::<usize>().ok()).unwrap_or(0);
@@ -139,7 +151,7 @@ impl Counts {
         out.list("long", &long, &[self.long_images, self.long_texts, self.many_lines]);
         out.list("turns in listings", &crate::counts::ANSWERS, &self.turns);
         out.list("words in listings", &["compared"], &[self.at_lines]);
-        out.list("bytes of listings", &["compared"], &[self.bytes]);
+        out.list("bytes of listings", &["compared", "most in one"], &[self.bytes, self.longest]);
     }
 }
 
@@ -163,7 +175,7 @@ fn first_line_that_differs(after: usize, whose: &str, model: &[u8], other: &[u8]
 
 pub fn check(case: &Case, twist: Option<Twist>, counts: &mut Counts) -> Result<(), Difference> {
     let after = case.text.iter().filter(|&&b| b == b'\n').count();
-    let mut listings = Kind::ALL.map(|kind| play(kind, &case.image, &case.text, WORDS, LIST_ROOM));
+    let mut listings = Kind::ALL.map(|kind| play_files(kind, &case.image, &case.text));
     if let Some(t) = twist {
         listings = listings.map(|listing| t.listing(listing));
     }
