@@ -52,8 +52,10 @@ uint32_t model_central(uint32_t *words, size_t word_count, const model_command *
                        model_reply *replies, size_t reply_count);
 
 /* Plays an image and a turn text as the programs play and central do, over 4,096 words that are 0, and writes the listing
- * into the caller's buffer. Returns the listing's length; where that is above room, nothing is written. Returns 0 where
- * malloc gave no memory: a listing has at least one line. */
+ * into the caller's buffer. As the programs do, it looks at no more than the first 32,768 bytes of each. Returns the listing's
+ * length; where that is above room, nothing is written. A listing has at most 116,744 bytes and at least one line, so that 0 is
+ * never returned; by the contract it would mean that no listing could be made, and that nothing is written. About 200 kilobytes
+ * of stack are used. No call allocates memory. */
 size_t model_play_snooping(const uint8_t *image, size_t image_length, const uint8_t *text, size_t text_length,
                            uint8_t *listing, size_t room);
 size_t model_play_central(const uint8_t *image, size_t image_length, const uint8_t *text, size_t text_length,

@@ -1,3 +1,4 @@
 pub mod Commands
 pub mod Machines
 pub mod Refusals
+pub mod Listed

@@ -4,9 +4,11 @@
 
 mod command;
 mod machine;
+mod play;
 mod refusal;
 mod run;
 
 pub use command::{Asked, Command, Reply, UnknownCode};
 pub use machine::Machine;
+pub use play::{model_play_central, model_play_snooping};
 pub use run::{model_central, model_snooping};

@@ -2,19 +2,14 @@
 #![tactic(auto)]
 
 ghost use Rattle.std.specs.Prelude.{◌≡◌, ℕ, ◌≤◌, List, length, IfOk, string_bytes};
-ghost use Rattle.played.specs.Played.{listing_played};
+ghost use Rattle.player.specs.Capacity.{most_bytes};
+ghost use Rattle.player.specs.Listings.{listing_played};
 
 use files::read_start;
-use player::{Input, Lists, RowList, listing, play_on, words_of};
+use player::{Input, Lists, MOST_BYTES, MOST_TURNS, RowList, listing, play_on, words_of};
 use std::alloc::Global;
 use std::fs::Files;
 use stores::{Turn, VersionStore};
-
-// As much of a file as is read.
-const MOST_BYTES: usize = 32768;
-
-// As many turns, and as many answers, as there are places for.
-const MOST_TURNS: usize = 2048;
 
 // The listing of the turns of `turns.txt`, played over a memory that `image.bin` fills. What the two files hold, no contract can say:
 // it is the listing of some image and text, neither longer than what is read.
@@ -25,7 +20,7 @@ pub fn listing_of_files<S: VersionStore>(
 where
     S::Below: Drop,
     requires { S.Below.Memory.sound memory }
-    ensures { IfOk result (λ listing. (image : List ℕ) × (text : List ℕ) × (length image ≤ MOST_BYTES) × (length text ≤ MOST_BYTES) × (string_bytes listing ≡ listing_played MOST_TURNS (S.Below.Memory.words memory) image text)) }
+    ensures { IfOk result (λ listing. (image : List ℕ) × (text : List ℕ) × (length image ≤ most_bytes) × (length text ≤ most_bytes) × (string_bytes listing ≡ listing_played (S.Below.Memory.words memory) image text)) }
 {
     let image = read_start(rt, "image.bin", MOST_BYTES)?;
     let text = read_start(rt, "turns.txt", MOST_BYTES)?;
@@ -45,7 +40,7 @@ pub fn listing_of<S: VersionStore>(
 where
     S::Below: Drop,
     requires { S.Below.Memory.sound memory }
-    ensures { IfOk result (λ listing. string_bytes listing ≡ listing_played MOST_TURNS (S.Below.Memory.words memory) input.entry.image.now input.entry.text.now) }
+    ensures { IfOk result (λ listing. string_bytes listing ≡ listing_played (S.Below.Memory.words memory) input.entry.image.now input.entry.text.now) }
 {
     let mut turn_row = vec![in heap; Turn::Start { p: 0 }; MOST_TURNS]?;
     let mut answer_row = vec![in heap; Ok(0); MOST_TURNS]?;

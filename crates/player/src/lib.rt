@@ -19,6 +19,6 @@ pub use image::load_image;
 pub use list::RowList;
 pub use loading::Loading;
 pub use output::{Played, listing, words_of};
-pub use play::{Input, Lists, play_both, play_on, play_text};
+pub use play::{Input, Lists, MOST_BYTES, MOST_TURNS, play_both, play_on, play_text};
 pub use text::read_turns;
 pub use write::{write_turn, write_turns};

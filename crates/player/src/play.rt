@@ -5,7 +5,7 @@ ghost use Rattle.versions.specs.Sequential.{ReadsOn, paired};
 ghost use Rattle.versions.specs.Taken.{ShowsAll};
 ghost use Rattle.player.specs.declared.fault.PlayerFault.TheVariants.{Image as AnImage};
 ghost use Rattle.player.specs.Faults.{ImageFault};
-ghost use Rattle.player.specs.Listings.{listing_of};
+ghost use Rattle.player.specs.Listings.{AlikeLists, ToldAlike};
 ghost use Rattle.player.specs.Lists.{content, free};
 ghost use Rattle.player.specs.Scripts.{Gained, PlayedOver, places_answer, script_of, told};
 
@@ -15,6 +15,12 @@ use crate::loading::Loading;
 use crate::text::read_turns;
 use memory::Memory;
 use stores::{Answer, CentralBuffer, SnoopingStore, Turn, VersionStore};
+
+// As much as is read of the file of an image, and of that of a text.
+pub const MOST_BYTES: usize = 32768;
+
+// As many turns, and as many answers, as the lists of the programs have places for.
+pub const MOST_TURNS: usize = 2048;
 
 // The lists for the turns of a text and for the answers to them.
 #[derive(Drop)]
@@ -66,7 +72,7 @@ pub fn play_both<M: Memory, N: Memory>(
     requires other_sound { N.Memory.sound other }
     ensures one { PlayedOver (M.Memory.words one) input.entry snooped.old snooped.new result.0.1 (M.Memory.words result.0.0) }
     ensures other { PlayedOver (N.Memory.words other) input.entry buffered.old buffered.new result.1.1 (N.Memory.words result.1.0) }
-    ensures alike { M.Memory.words one ≡ N.Memory.words other → free snooped.old.turns ≡ free buffered.old.turns → free snooped.old.answers ≡ free buffered.old.answers → content snooped.old.answers ≡ content buffered.old.answers → (result.0.1 ≡ result.1.1) × (content snooped.new.answers ≡ content buffered.new.answers) × (M.Memory.words result.0.0 ≡ N.Memory.words result.1.0) × (listing_of (content snooped.new.answers) result.0.1 (M.Memory.words result.0.0) ≡ listing_of (content buffered.new.answers) result.1.1 (N.Memory.words result.1.0)) }
+    ensures alike { M.Memory.words one ≡ N.Memory.words other → AlikeLists snooped.old buffered.old → ToldAlike snooped.new buffered.new result.0.1 result.1.1 (M.Memory.words result.0.0) (N.Memory.words result.1.0) }
     ensures refused { ((fault : ImageFault) → result.0.1 ≡ Err (AnImage fault) → result.0.0 ≡ one) × ((fault : ImageFault) → result.1.1 ≡ Err (AnImage fault) → result.1.0 ≡ other) }
     ensures beside { (M.Memory.spare result.0.0 ≡ M.Memory.spare one) × (N.Memory.spare result.1.0 ≡ N.Memory.spare other) }
     ensures kept { M.Memory.sound result.0.0 × N.Memory.sound result.1.0 }

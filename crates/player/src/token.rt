@@ -20,7 +20,7 @@ impl Token<'_> {
         ensures { result ≡ verb_seen (word_seen self.entry) }
     {
         match self {
-            Token::Verb(word) => Verb::try_from(word).ok(),
+            Token::Verb(word) => Verb::named(word),
             _ => None,
         }
     }

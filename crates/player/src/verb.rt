@@ -1,5 +1,6 @@
 // The verbs of turns, and how each is written.
-use crate::fault::TextWhy;
+ghost use Rattle.std.specs.Prelude.{◌≡◌};
+ghost use Rattle.player.specs.Verbs.{verb_named};
 
 #[derive(Clone, Copy)]
 pub enum Verb {
@@ -11,26 +12,20 @@ pub enum Verb {
     Replace,
 }
 
-impl TryFrom<&[u8]> for Verb {
-    ghost use Rattle.std.specs.Prelude.{◌≡◌};
-    ghost use Rattle.std.specs.Option.{ok_or};
-    ghost use Rattle.player.specs.declared.fault.TextWhy.TheVariants as why;
-    ghost use Rattle.player.specs.Verbs.{verb_named};
-
-    type Error = TextWhy;
-
-    ghost try_from_gives = { λ word r. r ≡ ok_or (verb_named word.now) why.Verb };
-
-    // The verb that is written so.
-    fn try_from(word: &[u8]) -> Result<Verb, TextWhy> {
+impl Verb {
+    // The verb that is written so, if there is one. (No `TryFrom`: that no verb is written so is a fault of the line, and the line
+    // tells it.)
+    pub fn named(word: &[u8]) -> Option<Verb>
+        ensures { result ≡ verb_named word.now }
+    {
         match word {
-            b"start" => Ok(Verb::Start),
-            b"load" => Ok(Verb::Load),
-            b"store" => Ok(Verb::Store),
-            b"squash" => Ok(Verb::Squash),
-            b"commit" => Ok(Verb::Commit),
-            b"replace" => Ok(Verb::Replace),
-            _ => Err(TextWhy::Verb),
+            b"start" => Some(Verb::Start),
+            b"load" => Some(Verb::Load),
+            b"store" => Some(Verb::Store),
+            b"squash" => Some(Verb::Squash),
+            b"commit" => Some(Verb::Commit),
+            b"replace" => Some(Verb::Replace),
+            _ => None,
         }
     }
 }

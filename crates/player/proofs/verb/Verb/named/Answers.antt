@@ -1,6 +1,6 @@
 use Rattle.std.proofs.Common.{codes, refl, arith, rules}
 use Rattle.std.proofs.lemmas.Slice.Eq.{text_from_reads}
-use Rattle.player.proofs.verb.VerbTryFromRefSliceU8.try_from.Goals as goal
+use Rattle.player.proofs.verb.Verb.named.Goals as goal
 
 pub returns-in-squash : goal.returns-in-squash
 returns-in-squash c =

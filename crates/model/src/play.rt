@@ -1,0 +1,95 @@
+// Playing an image and a text of turns as the programs do, with the listing in the caller's buffer.
+ghost use Rattle.std.specs.Prelude.{◌≡◌, length, take, replicate};
+ghost use Rattle.memory.specs.Words.{MemorySize};
+ghost use Rattle.player.specs.Capacity.{most_bytes};
+ghost use Rattle.player.specs.Listings.{listing_of, listing_played};
+ghost use Rattle.model.specs.Listed.{ListedIn};
+
+use arrayvec::ArrayString;
+use memory::{MOST_WORDS, Memory, WordMemory};
+use player::{Input, Lists, MOST_BYTES, MOST_TURNS, Played, PlayerFault, RowList, play_on};
+use std::fmt::Write;
+use stores::{Answer, CentralBuffer, SnoopingStore, Turn, VersionStore};
+
+// More bytes than any listing has: at most 19 for each answer, 8 for the number of tasks, and 19 for each word.
+const MOST_LISTED: usize = 131072;
+
+// As many bytes as the programs read of a file.
+fn start_of(bytes: &[u8]) -> &[u8]
+    ensures { result.now ≡ take most_bytes bytes.now }
+{
+    if bytes.len() < MOST_BYTES {
+        return bytes;
+    }
+    &bytes[..MOST_BYTES]
+}
+
+// Plays over some words, and writes the listing to the buffer. A library for C allocates nothing, so the rows are of fixed length. (In
+// `played`, which the programs share, they are `Vec`s.)
+fn play<'a, 'b, S: VersionStore<Below = WordMemory<'a>>>(
+    row: &'a mut [u32; MOST_WORDS],
+    image: &'b [u8],
+    text: &'b [u8],
+    listing: &mut [u8],
+) -> usize
+    requires words { (memory : _) → ⟦<S::Below as Memory>⟧.words memory ≡ memory.row.now }
+    requires sound { (memory : _) → MemorySize (length memory.row.now) → ⟦<S::Below as Memory>⟧.sound memory }
+    ensures { ListedIn (listing_played row.old (take most_bytes image.now) (take most_bytes text.now)) listing.old result listing.new }
+{
+    let mut turns = [Turn::Start { p: 0 }; MOST_TURNS];
+    let mut answers = [Ok(0); MOST_TURNS];
+    let mut lists = Lists {
+        turns: RowList::new(&mut turns),
+        answers: RowList::new(&mut answers),
+    };
+    let input = Input {
+        image: start_of(image),
+        text: start_of(text),
+    };
+    let (memory, outcome) = play_on::<S>(WordMemory::open(row), input, &mut lists);
+    list(lists.answers.items(), outcome, memory.close(), listing)
+}
+
+// Writes a listing to the buffer if it fits. It gives the listing's length, or 0 where there is none: no listing is too long, but of a
+// text that is written no contract says that it will be.
+fn list(
+    answers: &[Answer],
+    outcome: Result<u32, PlayerFault>,
+    words: &[u32],
+    listing: &mut [u8],
+) -> usize
+    ensures { ListedIn (listing_of answers.now outcome words.now) listing.old result listing.new }
+{
+    let played = Played {
+        answers,
+        outcome,
+        words,
+    };
+    let mut told = ArrayString::<MOST_LISTED>::new();
+    if write!(told, "{played}").is_err() {
+        return 0;
+    }
+    let n = told.len();
+    if n <= listing.len() {
+        listing[..n].copy_from_slice(told.as_bytes());
+    }
+    n
+}
+
+// On the snooping store, as the program `play`.
+#[unsafe(no_mangle)]
+pub extern "C" fn model_play_snooping(image: &[u8], text: &[u8], listing: &mut [u8]) -> usize
+    ensures { ListedIn (listing_played (replicate 4096 0) (take most_bytes image.now) (take most_bytes text.now)) listing.old result listing.new }
+{
+    let mut row = [0; MOST_WORDS];
+    play::<SnoopingStore<WordMemory>>(&mut row, image, text, listing)
+}
+
+// On the central buffer, as the program `central`.
+#[unsafe(no_mangle)]
+pub extern "C" fn model_play_central(image: &[u8], text: &[u8], listing: &mut [u8]) -> usize
+    ensures { ListedIn (listing_played (replicate 4096 0) (take most_bytes image.now) (take most_bytes text.now)) listing.old result listing.new }
+{
+    let mut row = [0; MOST_WORDS];
+    play::<CentralBuffer<WordMemory>>(&mut row, image, text, listing)
+}
