@@ -189,6 +189,11 @@ pub fn check(case: &Case, twist: Option<Twist>, counts: &mut Counts) -> Result<(
     let mut row = vec![UNTOUCHED; room + 64];
     let mut told = model::play(case.kind, &case.image, &case.text, &mut row[..room]);
     let mut written = if told <= room { told } else { 0 };
+    match twist {
+        Some(Twist::BehindListing) if told <= room => row[written] = 0,
+        Some(Twist::SmallRoom) if told > room && room > 0 => row[0] = 0,
+        _ => {}
+    }
     if row[written..].iter().any(|&b| b != UNTOUCHED) {
         return differs("what lies behind the listing", "changed".into(), "as it was".into());
     }
@@ -197,6 +202,9 @@ pub fn check(case: &Case, twist: Option<Twist>, counts: &mut Counts) -> Result<(
         let length = told;
         row = vec![UNTOUCHED; length + 64];
         told = model::play(case.kind, &case.image, &case.text, &mut row[..length]);
+        if twist == Some(Twist::Length) {
+            told -= 1;
+        }
         if told != length {
             return differs("the listing's length, with room for it", told.to_string(), length.to_string());
         }

@@ -234,6 +234,16 @@ pub fn check(case: &Case, twist: Option<Twist>, counts: &mut Commands) -> Result
         &commands,
         &mut reply_row[GUARD..GUARD + room],
     );
+    match twist {
+        Some(Twist::BehindWords) => word_row[GUARD + n] = 0,
+        Some(Twist::BeforeReplies) => reply_row[GUARD - 1] = Reply::default(),
+        Some(Twist::RefusedWords) if outcome != 0 && n > 0 => word_row[GUARD] ^= 1,
+        Some(Twist::RefusedReplies) if outcome != 0 && room > 0 => reply_row[GUARD] = Reply::default(),
+        Some(Twist::SpareReply) if outcome == 0 && room > commands.len() => {
+            reply_row[GUARD + commands.len()] = Reply::default();
+        }
+        _ => {}
+    }
     let words = &word_row[GUARD..GUARD + n];
     let replies = &reply_row[GUARD..GUARD + room];
 

@@ -1,4 +1,5 @@
-//! One answer of the independent side, changed on purpose: what shows that the comparison can fail.
+//! One answer of the independent side, or one place that the model must leave alone, changed on purpose: what shows that the
+//! comparison can fail.
 
 use crate::model::{self, Command, Reply};
 
@@ -40,10 +41,21 @@ pub enum Twist {
     Place,
     /// A fault 11 of an image is 12.
     Pair,
+    /// As if the model had changed what lies behind the words, before the replies, the words or replies of a refused call, a reply
+    /// beyond the commands, what lies behind a listing, or a listing's room where it is too small.
+    BehindWords,
+    BeforeReplies,
+    RefusedWords,
+    RefusedReplies,
+    SpareReply,
+    BehindListing,
+    SmallRoom,
+    /// As if the model told another length where the listing has room.
+    Length,
 }
 
 impl Twist {
-    pub const ALL: [(&'static str, Twist); 18] = [
+    pub const ALL: [(&'static str, Twist); 26] = [
         ("answer", Twist::Answer),
         ("refusal", Twist::Refusal),
         ("pointer", Twist::Pointer),
@@ -62,6 +74,14 @@ impl Twist {
         ("listing", Twist::Listing),
         ("place", Twist::Place),
         ("pair", Twist::Pair),
+        ("behind-words", Twist::BehindWords),
+        ("before-replies", Twist::BeforeReplies),
+        ("refused-words", Twist::RefusedWords),
+        ("refused-replies", Twist::RefusedReplies),
+        ("spare-reply", Twist::SpareReply),
+        ("behind-listing", Twist::BehindListing),
+        ("small-room", Twist::SmallRoom),
+        ("length", Twist::Length),
     ];
 
     pub fn named(name: &str) -> Option<Twist> {
