@@ -106,6 +106,7 @@ fn a_refused_call_leaves_the_line_of_its_address(rt: HostRuntime) -> Result<(), 
         refused,
         (Err(MemoryError::Address), Err(MemoryError::Address))
     );
-    assert_eq!(rt; (below.reads, below.writes), (2, 0));
+    // The refused read was asked below and refused there: that counts nothing, as a refused call leaves a memory as it is.
+    assert_eq!(rt; (below.reads, below.writes), (1, 0));
     Ok(())
 }
