@@ -1,8 +1,6 @@
 -- Laws of the order of the active tasks: the place of a processor in it, and that no processor is in it twice.
-use Rattle.std.proofs.Common.{◌≡◌, ℕ, zero, suc, ◌+◌, ◌<◌, ◌≤◌, Bool, true, false, cond, eqb, ltb, List, [], ◌∷◌, ◌++◌, length, get_or, take, drop, Some, None, Option, sym, refl, ap, ◌∙◌, arith}
+use Rattle.std.proofs.Common.{◌≡◌, ℕ, zero, suc, ◌<◌, ◌≤◌, Bool, true, false, cond, eqb, List, [], ◌∷◌, ◌++◌, length, get_or, take, drop, Some, None, Option, sym, refl, arith}
 use Rattle.std.specs.Option.{option_map}
-use Rattle.std.specs.List.{position_from, position_or_len}
-use Rattle.std.proofs.lemmas.Iterator.Adapters.{position_from-zero}
 use Rattle.std.proofs.lemmas.Bool.{ne_eqb, eqb-false}
 use Rattle.versions.specs.Orders.{place_in, Apart}
 
@@ -54,24 +52,6 @@ apart-take (suc k) (q ∷ qs) a = (a.0, place-none-take k qs q a.1, apart-take k
 pub apart-drop : (qs : List ℕ) → Apart qs → Apart (drop 1 qs)
 apart-drop [] a = tt
 apart-drop (q ∷ qs) a = a.2
-
--- the library's search for the place of p
-place_from : (qs : List ℕ) (p i : ℕ) → position_from (λ q. eqb q p) i qs ≡ option_map (λ n. i + n) (place_in qs p)
-place_from [] p i = refl
-place_from (q ∷ qs) p i = go (eqb q p) (place_in qs p) (place_from qs p (i + 1))
-  where
-    go : (t : Bool) (o : Option ℕ) → position_from (λ q. eqb q p) (i + 1) qs ≡ option_map (λ n. i + 1 + n) o
-        → cond t (Some i) (position_from (λ q. eqb q p) (i + 1) qs) ≡ option_map (λ n. i + n) (cond t (Some 0) (option_map suc o))
-    go true o e = ap Some (omega arith)
-    go false None e = e
-    go false (Some n) e = e ∙ ap Some (omega arith)
-
-pub found_place : (qs : List ℕ) (p : ℕ) → cond (ltb (position_or_len (λ q. eqb q p) qs) (length qs)) (Some (position_or_len (λ q. eqb q p) qs)) None ≡ place_in qs p
-found_place qs p = position_from-zero (λ q. eqb q p) qs ∙ (place_from qs p 0 ∙ same (place_in qs p))
-  where
-    same : (o : Option ℕ) → option_map (λ n. 0 + n) o ≡ o
-    same None = refl
-    same (Some n) = ap Some (omega arith)
 
 differs : (a b : ℕ) → eqb a b ≡ false → a ≡ b → ⊥
 differs a b e = eqb-false a b e

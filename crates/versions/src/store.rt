@@ -96,6 +96,7 @@ pub trait VersionStore: Sized {
         ensures kept { Self.Below.Memory.sound result };
 
     // Plays one turn.
+    #[inline]
     fn take_turn(&mut self, turn: Turn) -> Answer
         requires { sound self.old }
         ensures { Took plain shows spare sound self.old turn result self.new }
