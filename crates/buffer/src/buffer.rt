@@ -68,8 +68,7 @@ impl<M: Memory> VersionStore for CentralBuffer<M> {
     fn load(&mut self, p: u32, a: u32) -> Answer {
         let (p, k) = self.tasks.access(self.memory.size(), p, a)?;
         let w = self.seen(k, a)?;
-        let version = self.tasks.version(p, a);
-        self.tasks.put(p, a, version.with_load());
+        self.tasks.note_load(p, a);
         Ok(w)
     }
 

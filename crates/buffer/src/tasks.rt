@@ -4,7 +4,7 @@ ghost use Rattle.versions.specs.Orders.{place_in};
 ghost use Rattle.versions.specs.Tables.{empty_table, with_version, without, without_all};
 ghost use Rattle.buffer.specs.Rows.{HoldsNoOther};
 ghost use Rattle.buffer.specs.Tasks.{table_of, versions_at};
-ghost use Rattle.versions.specs.Versions.{nearest_own};
+ghost use Rattle.versions.specs.Versions.{nearest_own, with_load};
 
 use crate::rows::Rows;
 use versions::{Class, Order, Processor, TaskTable, Version};
@@ -53,6 +53,19 @@ impl Tasks {
         ensures table { table_of self.new ≡ with_version (table_of self.old) p a v }
     {
         self.rows.put(p, a, v);
+    }
+
+    // Notes in p's version of a that it has loaded there. Where it holds a already, nothing changes, so nothing is written: most loads
+    // find it so.
+    pub fn note_load(&mut self, p: Processor, a: u32)
+        requires { HoldsNoOther (table_of self.old p) a }
+        ensures order { self.new.order ≡ self.old.order }
+        ensures table { table_of self.new ≡ with_version (table_of self.old) p a (with_load (table_of self.old p a)) }
+    {
+        let version = self.version(p, a);
+        if !version.is_held() {
+            self.put(p, a, version.with_load());
+        }
     }
 
     // Removes the tasks from place k on, with their versions; k is bounded by a clause, as above.
