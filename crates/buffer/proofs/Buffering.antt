@@ -320,6 +320,15 @@ module _ (rs : List Row) (p a : ℕ) (g : GoodSet (a % 16) rs) (l : p < 4) (mine
       let x = position-Some is_free rs j no_row e in
       record { within = omega (arith, g.count, x.0); fits = inr (x.1, s); last = λ i m k. s i k; only = λ k m n. absurd (true≢false (sym n ∙ none-held s k m)) }
 
+-- the version that p has of a stands in the row that can take it
+pub taken-version : (c : ℕ) (rs : List Row) (p a j : ℕ) → GoodSet c rs → RowFor rs p a j → in_rows rs p a ≡ in_row (get_or rs j no_row) p
+taken-version c rs p a j g x =
+    ⊎_elim
+    (λ (e : (get_or rs j no_row).address ≡ a). rows-only rs p a j (omega (arith, g.count, x.within)) e (λ i k s m. x.only i (omega (arith, g.count)) m))
+    (λ (f : (is_free (get_or rs j no_row) ≡ true) × ((i : ℕ) → i < 4 → (get_or rs i no_row).address ≢ a)).
+    rows-none rs p a (λ i k s m. f.1 i (omega (arith, g.count)) s) ∙ sym (unheld-none (in_row (get_or rs j no_row) p) (free-unheld (get_or rs j no_row) f.0 p)))
+    x.fits
+
 -- p's rows of a's class are of address a, where p holds no other address of the class
 pub rows-mine : (sets : List (List Row)) (c p a : ℕ) → c ≡ a % 16 → GoodSets sets → HoldsNoOther (in_sets sets p) a
     → (i : ℕ) → i < 4 → is_held (in_row (get_or (get_or sets c []) i no_row) p) ≡ true → (get_or (get_or sets c []) i no_row).address ≡ a

@@ -77,8 +77,7 @@ impl<M: Memory> VersionStore for CentralBuffer<M> {
         let active = self.tasks.order().len();
         let hit = self.tasks.squashed(k + 1, a);
         self.tasks.cut(active - hit);
-        let version = self.tasks.version(p, a);
-        self.tasks.put(p, a, version.with_store(w));
+        self.tasks.note_store(p, a, w);
         Ok(hit as u32)
     }
 

@@ -3,7 +3,7 @@
 ghost use Rattle.std.specs.Prelude.{◌≡◌, ℕ, ◌%◌, ◌<◌, true, ◌&&◌, map, length, get_or, ◌==◌, slice_index_or, slice_set};
 ghost use Rattle.std.specs.List.{position};
 ghost use Rattle.buffer.specs.Sets.{no_row, in_row, row_with, is_free, in_rows, without_row, GoodSet, GoodSets, LastOf, HeldBefore, RowFor, PutInto};
-ghost use Rattle.versions.specs.Versions.{is_held};
+ghost use Rattle.versions.specs.Versions.{is_held, with_store};
 
 use std::marker::Model;
 use versions::{Class, Processor, Version};
@@ -116,6 +116,18 @@ impl Set {
         row.versions[p.index()] = v;
     }
 
+    // Puts w over p's version of a. The row is looked for once, where `version` and then `put` would look twice.
+    fn store(&mut self, p: Processor, a: u32, w: u32)
+        requires good_set { GoodSet (a % 16) self.old }
+        requires mine { (i : ℕ) → i < 4 → is_held (in_row (slice_index_or self.old i no_row) p) ≡ true → (get_or self.old i no_row).address ≡ a }
+        ensures { PutInto self.old p a (with_store w (in_rows self.old p a)) self.new }
+    {
+        let j = self.row_for(p, a);
+        let row = &mut self.rows[j];
+        row.address = a;
+        row.versions[p.index()] = row.versions[p.index()].with_store(w);
+    }
+
     // A row that can take p's version of a: the one of the address, else a free one.
     fn row_for(&self, p: Processor, a: u32) -> usize
         requires good_set { GoodSet (a % 16) self.now }
@@ -199,6 +211,14 @@ impl Rows {
     {
         let set = &mut self.sets[Class::of(a).index()];
         set.put(p, a, v);
+    }
+
+    // Puts w over p's version of a. p holds no other address of a's class.
+    pub fn store(&mut self, p: Processor, a: u32, w: u32)
+        requires { HoldsNoOther (table_in self.old p) a }
+        ensures { table_in self.new ≡ with_version (table_in self.old) p a (with_store w (table_in self.old p a)) }
+    {
+        self.sets[Class::of(a).index()].store(p, a, w);
     }
 
     // Takes p's versions out of all rows.

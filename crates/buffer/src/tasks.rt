@@ -4,7 +4,7 @@ ghost use Rattle.versions.specs.Orders.{place_in};
 ghost use Rattle.versions.specs.Tables.{empty_table, with_version, without, without_all};
 ghost use Rattle.buffer.specs.Rows.{HoldsNoOther};
 ghost use Rattle.buffer.specs.Tasks.{table_of, versions_at};
-ghost use Rattle.versions.specs.Versions.{nearest_own, with_load};
+ghost use Rattle.versions.specs.Versions.{nearest_own, with_load, with_store};
 
 use crate::rows::Rows;
 use versions::{Class, Order, Processor, TaskTable, Version};
@@ -66,6 +66,15 @@ impl Tasks {
         if !version.is_held() {
             self.put(p, a, version.with_load());
         }
+    }
+
+    // Notes in p's version of a that it has stored w there. p holds no other address of a's class.
+    pub fn note_store(&mut self, p: Processor, a: u32, w: u32)
+        requires { HoldsNoOther (table_of self.old p) a }
+        ensures order { self.new.order ≡ self.old.order }
+        ensures table { table_of self.new ≡ with_version (table_of self.old) p a (with_store w (table_of self.old p a)) }
+    {
+        self.rows.store(p, a, w);
     }
 
     // Removes the tasks from place k on, with their versions; k is bounded by a clause, as above.
