@@ -67,8 +67,9 @@ impl<M: Memory> VersionStore for CentralBuffer<M> {
 
     fn load(&mut self, p: u32, a: u32) -> Answer {
         let (p, k) = self.tasks.access(self.memory.size(), p, a)?;
+        let version = self.tasks.version(p, a);
         let w = self.seen(k, a)?;
-        self.tasks.note_load(p, a);
+        self.tasks.note_load(p, a, version);
         Ok(w)
     }
 

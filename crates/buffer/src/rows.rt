@@ -31,6 +31,15 @@ impl Row {
         version.mark | version.own.is_some()
     }
 
+    // Makes v p's version, and a the address.
+    fn put(&mut self, p: Processor, a: u32, v: Version)
+        ensures row { self.new ≡ row_with self.old p a v }
+        ensures bound { p < 4 }
+    {
+        self.address = a;
+        self.versions[p.index()] = v;
+    }
+
     // Takes p's version out.
     fn clear(&mut self, p: Processor)
         ensures { self.new ≡ without_row p self.old }
@@ -111,9 +120,7 @@ impl Set {
         ensures { PutInto self.old p a v self.new }
     {
         let j = self.row_for(p, a);
-        let row = &mut self.rows[j];
-        row.address = a;
-        row.versions[p.index()] = v;
+        self.rows[j].put(p, a, v);
     }
 
     // Puts w over p's version of a. The row is looked for once, where `version` and then `put` would look twice.
@@ -123,9 +130,8 @@ impl Set {
         ensures { PutInto self.old p a (with_store w (in_rows self.old p a)) self.new }
     {
         let j = self.row_for(p, a);
-        let row = &mut self.rows[j];
-        row.address = a;
-        row.versions[p.index()] = row.versions[p.index()].with_store(w);
+        let version = self.rows[j].version(p);
+        self.rows[j].put(p, a, version.with_store(w));
     }
 
     // A row that can take p's version of a: the one of the address, else a free one.
@@ -136,9 +142,7 @@ impl Set {
     {
         // Its contract gives p < 4, which the search for a free row needs.
         let _ = p.index();
-        self.address_place(a)
-            .or_else(|| self.free_place())
-            .unwrap()
+        self.address_place(a).or_else(|| self.free_place()).unwrap()
     }
 
     // The place of the last row of address a. All are looked at: a search that ends at the first costs more, since where it ends can't
@@ -152,11 +156,7 @@ impl Set {
                 place = j;
             }
         }
-        if place < 4 {
-            Some(place)
-        } else {
-            None
-        }
+        if place < 4 { Some(place) } else { None }
     }
 
     // The place of a free row.

@@ -39,7 +39,10 @@ note_load-requires g c =
     let at = at-processor c.args.p c.in_ok-p.p c.in_ok-p.k (λ (p : ℕ). access_place c.size.result ps (table_of b.tasks) p c.args.a) c.in_ok-p.ensures in
     let y = ok-access n ps (table_of b.tasks) c.in_ok-p.p c.args.a c.in_ok-p.k
     (at.1 ∙ ap (λ (n : ℕ). access_place n ps (table_of b.tasks) c.in_ok-p.p c.args.a) c.size.ensures) in
-    subst (λ (t : Tasks). HoldsNoOther (table_of t c.in_ok-p.p) c.args.a) (sym c.seen.ensures.tasks) (class-free n ps (table_of b.tasks) c.in_ok-p.p c.args.a c.requires.fits y.3)
+    record {
+      other = subst (λ (t : Tasks). HoldsNoOther (table_of t c.in_ok-p.p) c.args.a) (sym c.seen.ensures.tasks) (class-free n ps (table_of b.tasks) c.in_ok-p.p c.args.a c.requires.fits y.3);
+      version = c.version-version.ensures ∙ ap (λ (t : Tasks). table_of t c.in_ok-p.p c.args.a) (sym c.seen.ensures.tasks);
+    }
 
 pub returns : goal.returns
 returns g c =

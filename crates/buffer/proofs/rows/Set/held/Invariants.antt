@@ -1,4 +1,4 @@
-use Rattle.std.proofs.Common.{◌≡◌, ◌<◌, ◌≤◌, ℕ, true, get_or, None}
+use Rattle.std.proofs.Common.{◌≡◌, ◌<◌, ◌≤◌, true, get_or, None}
 use Rattle.versions.specs.Versions.{is_held}
 use Rattle.buffer.specs.Sets.{no_row, in_row, HeldBefore}
 use Rattle.buffer.proofs.rows.Set.held.Given as goal
