@@ -139,7 +139,8 @@ def main():
                     faults.append(f"{name}: no log tells of it")
                 elif not said.startswith(REFUSED):
                     faults.append(f"{name}: {said}")
-                    survivors.append(name)
+                    if "NOT REFUSED" in said:
+                        survivors.append(name)
                 else:
                     words = re.sub(r"[-_]", " ", path.stem)
                     rows.append((words, place, ("the gate", "outside")[k], reason(said[len(REFUSED):])))
