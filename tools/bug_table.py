@@ -31,9 +31,10 @@ holds. Where it does not, the contract is too weak.
 {gate} bugs are tried by every run of the gate, and {outside} more outside it, by `python3 tools/planted_bugs.py`; [gate.md](gate.md)
 says how. {survivors}
 
-"Refused by" is the prover's first error: what the function ensures (with the name of its clause, where it has several), what a
-call in it requires, an invariant of a loop or of a type, or that an index or a number stays within its bounds. "By hand" says that the error
-is in a proof that is written out, in the crate's `proofs/`; what is not so is proved by search. After one error the others are not looked at.
+"Refused by" is the prover's first error: what the function, or one that calls it, ensures (with the name of its clause, where it has
+several; `writes` is the text that a `Display` gives), what a call in it requires, an invariant of a loop or of a type, or that an index or a number stays
+within its bounds. "By hand" says that the error is in a proof that is written out in the crate's `proofs/`; elsewhere the prover looks for
+the proof itself, and finds none. After the first error the others are not looked at.
 
 This page is written by `python3 tools/bug_table.py LOG ...` from the edits and from what the prover said of each.
 
@@ -101,8 +102,9 @@ def reason(error):
         return "another need: " + re.sub(r"[|`]", "", said)[:80]
     clause = re.search(r"-clause-([\w]+)", goal)
     name = f": {clause[1]}" if clause else ""
+    case = re.search(r"-in-([A-Z]\w*)", goal)
     if goal.startswith("returns"):
-        said = "what it ensures" + name
+        said = "what it ensures" + name + (f", in the case {case[1]}" if case else "")
     elif goal.startswith("loop-"):
         said = "the invariant of a loop" + (", at its start" if goal.endswith("-init") else "")
     elif goal.startswith("invariant"):
