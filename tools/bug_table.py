@@ -46,11 +46,17 @@ This page is written by `python3 tools/bug_table.py LOG ...` from the edits and 
 TAIL = """
 ## Where nothing is planted
 
-The programs `play`, `central` and `buffered` have no contract of their own: each names a store and a memory, and calls functions that have
-contracts. The same holds of `memories` but for what the table above lists. A bug in their `main` that keeps to what those functions require is not
-refused by the prover; the gate compares what each program writes with its file `stdout`. Of `files` no contract can say what a file
-holds, so that only `take_most` and `fill`, which read from any source, have their bytes pinned. `memory_tests`, `stores_tests` and
-`player_tests` are tests.
+The programs `play`, `central` and `buffered` promise nothing: each names a store and a memory, and calls functions that have contracts. So
+does `memories`, but for the functions that stand above. A bug in their `main` is refused only where a call no longer gets what it
+requires; what each program writes the gate compares with its file `stdout`. `memory_tests`, `stores_tests` and `player_tests` are tests.
+
+## Bugs that no contract refuses
+
+These were tried too. The prover passes them, since no contract can say more, and other checks have to find them.
+
+| Bug | Why no contract refuses it | What looks there |
+|---|---|---|
+@SURVIVORS@
 """
 
 
@@ -96,7 +102,7 @@ def where(crate, file, olds):
 
 def reason(error):
     """What an error says, in plain words."""
-    goal = next((g for g in re.findall(r"`([^` ]+)`", error) if re.match(r"returns|loop-|invariant|overflow|index|.*-requires", g)), None)
+    goal = next((g for g in re.findall(r"`([^` ]+)`", error) if re.match(r"returns|loop-|invariant|overflow|index|slice_bounds|.*-requires", g)), None)
     if goal is None:
         said = error.split(" ", 2)[-1] if error.startswith("note: ") else error
         return "another need: " + re.sub(r"[|`]", "", said)[:80]
@@ -111,8 +117,8 @@ def reason(error):
         said = "the invariant of its type"
     elif goal.startswith("overflow"):
         said = "that a number stays within its bounds"
-    elif goal.startswith("index"):
-        said = "that an index is within its row"
+    elif goal.startswith(("index", "slice_bounds")):
+        said = "that an index or a range is within its row"
     else:
         said = f"what `{goal.split('-')[0]}` requires" + name
     return said + (" (by hand)" if "proofs/" in error.split(" ")[0] else "")
