@@ -15,7 +15,7 @@ use Rattle.versions.specs.declared.version.Version.{Version}
 use Rattle.versions.specs.Versions.{no_version, is_held}
 use Rattle.versions.specs.Tables.{empty_table, with_version, without, HeldIn}
 use Rattle.versions.proofs.Classes.{unheld-none}
-use Rattle.buffer.specs.Sets.{no_row, in_row, row_with, is_free, in_rows, in_sets, held_address, without_row, GoodSet, GoodSets, RowFor}
+use Rattle.buffer.specs.Sets.{no_row, in_row, row_with, is_free, in_rows, in_sets, without_row, GoodSet, GoodSets, LastOf, HeldBefore, RowFor}
 use Rattle.buffer.specs.Rows.{HoldsNoOther}
 
 -- the version, and the address, of the first row that passes, row by row
@@ -57,30 +57,52 @@ row_shows (r ∷ rs) p (suc i) l h = ap is_held (in-cons r rs p (get_or rs i no_
     go true e again = (and_parts (eqb r.address (get_or rs i no_row).address) (is_held (in_row r p)) e).1
     go false e again = again
 
--- the address that p holds in a set
-pub held_none : (rs : List Row) (p b : ℕ) → held_address rs p ≡ None → is_held (in_rows rs p b) ≡ false
-held_none rs p b h = ap is_held (rows-unheld rs p b (unheld rs h))
+-- where no row of address b is held by p, it has no version of b
+rows-none : (rs : List Row) (p b : ℕ) → ((i : ℕ) → i < length rs → (get_or rs i no_row).address ≡ b → is_held (in_row (get_or rs i no_row) p) ≡ true → ⊥) → in_rows rs p b ≡ no_version
+rows-none [] p b h = refl
+rows-none (r ∷ rs) p b h =
+    in-cons r rs p b ∙ (cond-false (eqb r.address b && is_held (in_row r p)) (in_row r p) (in_rows rs p b) (skip (eqb r.address b && is_held (in_row r p)) refl) ∙ rows-none rs p b (λ i l. h (suc i) (omega arith)))
   where
-    unheld : (rs : List Row) → held_address rs p ≡ None → (i : ℕ) → i < length rs → is_held (in_row (get_or rs i no_row) p) ≡ false
-    unheld [] h i l = absurd (omega arith)
-    unheld (r ∷ rs) h i l = go (is_held (in_row r p)) refl h i l (λ k j m. unheld rs k j m)
-      where
-        go : (t : Bool) → is_held (in_row r p) ≡ t → option_map (λ x. x.address) (cond t (Some r) (find (λ x. is_held (in_row x p)) rs)) ≡ None → (i : ℕ) → i < suc (length rs)
-            → (held_address rs p ≡ None → (j : ℕ) → j < length rs → is_held (in_row (get_or rs j no_row) p) ≡ false) → is_held (in_row (get_or (r ∷ rs) i no_row) p) ≡ false
-        go true e h i l again = cc
-        go false e h zero l again = e
-        go false e h (suc i) l again = again h i (omega arith)
+    skip : (t : Bool) → (eqb r.address b && is_held (in_row r p)) ≡ t → t ≡ false
+    skip true e = let x = and_parts (eqb r.address b) (is_held (in_row r p)) e in absurd (h 0 (omega arith) (eqb-true r.address b x.0) x.1)
+    skip false e = refl
 
-pub held-some : (rs : List Row) (p b : ℕ) → held_address rs p ≡ Some b
-    → (i : ℕ) × (i < length rs) × (is_held (in_row (get_or rs i no_row) p) ≡ true) × ((get_or rs i no_row).address ≡ b)
-held-some [] p b h = absurd (cc)
-held-some (r ∷ rs) p b h = go (is_held (in_row r p)) refl h (λ k. held-some rs p b k)
+-- where p holds no other row of address b than that at place j, it has there the version of b
+rows-only : (rs : List Row) (p b j : ℕ) → j < length rs → (get_or rs j no_row).address ≡ b
+    → ((i : ℕ) → i < length rs → (get_or rs i no_row).address ≡ b → is_held (in_row (get_or rs i no_row) p) ≡ true → i ≡ j) → in_rows rs p b ≡ in_row (get_or rs j no_row) p
+rows-only [] p b j l e h = absurd (omega arith)
+rows-only (r ∷ rs) p b zero l e h = in-cons r rs p b ∙ go (is_held (in_row r p)) refl
   where
-    go : (t : Bool) → is_held (in_row r p) ≡ t → option_map (λ x. x.address) (cond t (Some r) (find (λ x. is_held (in_row x p)) rs)) ≡ Some b
-        → (held_address rs p ≡ Some b → (i : ℕ) × (i < length rs) × (is_held (in_row (get_or rs i no_row) p) ≡ true) × ((get_or rs i no_row).address ≡ b))
-        → (i : ℕ) × (i < suc (length rs)) × (is_held (in_row (get_or (r ∷ rs) i no_row) p) ≡ true) × ((get_or (r ∷ rs) i no_row).address ≡ b)
-    go true e h again = let same : r.address ≡ b = cc in (0, omega arith, e, same)
-    go false e h again = let x = again h in (suc x.0, omega (arith, x.1), x.2, x.3)
+    rest : in_rows rs p b ≡ no_version
+    rest = rows-none rs p b (λ i k s m. let z : suc i ≡ 0 = h (suc i) (omega arith) s m in omega arith)
+
+    go : (t : Bool) → is_held (in_row r p) ≡ t → cond (eqb r.address b && t) (in_row r p) (in_rows rs p b) ≡ in_row r p
+    go true x = cond-true (eqb r.address b && true) (in_row r p) (in_rows rs p b) (ap (λ (t : Bool). t && true) (eq-eqb r.address b e))
+    go false x = cond-false (eqb r.address b && false) (in_row r p) (in_rows rs p b) (ap (λ (t : Bool). t && false) (eq-eqb r.address b e)) ∙ (rest ∙ sym (unheld-none (in_row r p) x))
+rows-only (r ∷ rs) p b (suc j) l e h =
+    in-cons r rs p b ∙ (cond-false (eqb r.address b && is_held (in_row r p)) (in_row r p) (in_rows rs p b) (skip (eqb r.address b && is_held (in_row r p)) refl)
+    ∙ rows-only rs p b j (omega arith) e (λ i k s m. let z : suc i ≡ suc j = h (suc i) (omega arith) s m in omega arith))
+  where
+    skip : (t : Bool) → (eqb r.address b && is_held (in_row r p)) ≡ t → t ≡ false
+    skip true x = let y = and_parts (eqb r.address b) (is_held (in_row r p)) x in let z : 0 ≡ suc j = h 0 (omega arith) (eqb-true r.address b y.0) y.1 in absurd (omega arith)
+    skip false x = refl
+
+-- p's version of a, by the place of the last row of a
+pub placed-version : (c : ℕ) (rs : List Row) (p a j : ℕ) → GoodSet c rs → LastOf rs a 4 (Some j) → in_rows rs p a ≡ in_row (get_or rs j no_row) p
+placed-version c rs p a j g h =
+    rows-only rs p a j (omega (arith, g.count, h.0)) h.1
+    (λ i k s m.
+    ⊎_elim
+    (λ (e : i ≡ j). e)
+    (λ (ne : i ≢ j).
+    ⊎_elim
+    (λ (below : i < j). absurd (g.last p i j below h.0 m (h.1 ∙ sym s)))
+    (λ (above : j ≤ i). absurd (h.2 i (omega arith) (omega (arith, g.count)) s))
+    (cases_lt i j))
+    (cases_eq i j))
+
+pub placed-none : (c : ℕ) (rs : List Row) (p a : ℕ) → GoodSet c rs → LastOf rs a 4 None → in_rows rs p a ≡ no_version
+placed-none c rs p a g h = rows-none rs p a (λ i k s m. h i (omega (arith, g.count)) s)
 
 -- nobody holds a free row, and somebody one that is not free
 pub free-unheld : (r : Row) → is_free r ≡ true → (q : ℕ) → is_held (in_row r q) ≡ false
@@ -221,6 +243,23 @@ put-good c rs j p a v g x class =
           ap (λ (r : Row). r.address % 16) (get_or-set_other rs j i (row_with (get_or rs j no_row) p a v) no_row ne)
           ∙ g.class q i h (sym (ap (λ (r : Row). is_held (in_row r q)) (get_or-set_other rs j i (row_with (get_or rs j no_row) p a v) no_row ne)) ∙ e))
           (cases_eq i j);
+      last = λ q k i below h e same.
+          let there : (m : ℕ) → m ≢ j → (get_or new m no_row).address ≡ (get_or rs m no_row).address = λ m ne. ap (λ (r : Row). r.address) (get_or-set_other rs j m (row_with (get_or rs j no_row) p a v) no_row ne) in
+          let here : (m : ℕ) → m ≡ j → (get_or new m no_row).address ≡ a = λ m e. ap (λ (x : ℕ). (get_or new x no_row).address) e ∙ ap (λ (r : Row). r.address) (get_or-set_same rs j (row_with (get_or rs j no_row) p a v) no_row l) in
+          ⊎_elim
+          (λ (s : k ≡ j). x.last i (omega arith) h (sym (there i (omega arith)) ∙ (same ∙ here k s)))
+          (λ (ne : k ≢ j).
+          let old : is_held (in_row (get_or rs k no_row) q) ≡ true = sym (ap (λ (r : Row). is_held (in_row r q)) (get_or-set_other rs j k (row_with (get_or rs j no_row) p a v) no_row ne)) ∙ e in
+          ⊎_elim
+          (λ (t : i ≡ j).
+          let of : (get_or rs k no_row).address ≡ a = sym (there k ne) ∙ (sym same ∙ here i t) in
+          ⊎_elim
+          (λ (f : (get_or rs j no_row).address ≡ a). g.last q k j (omega arith) x.within old (f ∙ sym of))
+          (λ (f : (is_free (get_or rs j no_row) ≡ true) × ((m : ℕ) → m < 4 → (get_or rs m no_row).address ≢ a)). f.1 k (omega arith) of)
+          x.fits)
+          (λ (other : i ≢ j). g.last q k i below h old (sym (there i other) ∙ (same ∙ there k ne)))
+          (cases_eq i j))
+          (cases_eq k j);
     }
 
 -- a set in which p holds nothing has a free row: the other three tasks hold one each at most
@@ -245,37 +284,50 @@ room c rs p g l none full =
         → (w ≡ p → ⊥) → (x ≡ p → ⊥) → (y ≡ p → ⊥) → (z ≡ p → ⊥) → ⊥
     five w x y z p lw lx ly lz lp wx wy wz xy xz yz wp xp yp zp = omega arith
 
--- the three ways to a row for p's version of a
+-- the two ways to a row for p's version of a
 module _ (rs : List Row) (p a : ℕ) (g : GoodSet (a % 16) rs) (l : p < 4) (mine : (i : ℕ) → i < 4 → is_held (in_row (get_or rs i no_row) p) ≡ true → (get_or rs i no_row).address ≡ a) where
-  none-held : position (λ r. is_held (in_row r p)) rs ≡ None → (i : ℕ) → i < 4 → is_held (in_row (get_or rs i no_row) p) ≡ false
-  none-held h i k = position-none (λ r. is_held (in_row r p)) rs h i (omega (arith, g.count))
-
-  pub some-row : (o : Option ℕ) → o ≡ option_or (option_or (position (λ r. is_held (in_row r p)) rs) (position (λ r. eqb r.address a) rs)) (position is_free rs) → IsSome o
-  some-row (Some j) e = refl
-  some-row None e = go (position (λ r. is_held (in_row r p)) rs) refl (position (λ r. eqb r.address a) rs) (position is_free rs) refl e
+  none-held : LastOf rs a 4 None → (i : ℕ) → i < 4 → is_held (in_row (get_or rs i no_row) p) ≡ false
+  none-held h i k = go (is_held (in_row (get_or rs i no_row) p)) refl
     where
-      go : (held : Option ℕ) → position (λ r. is_held (in_row r p)) rs ≡ held → (same free : Option ℕ) → position is_free rs ≡ free → None ≡ option_or (option_or held same) free → IsSome {T = ℕ} None
-      go (Some j) h same free f e = cc
-      go None h (Some j) free f e = cc
-      go None h None (Some j) f e = cc
-      go None h None None f e = absurd (room (a % 16) rs p g l (none-held h) f)
+      go : (t : Bool) → is_held (in_row (get_or rs i no_row) p) ≡ t → t ≡ false
+      go true e = absurd (h i k (mine i k e))
+      go false e = refl
 
-  pub row-fits : (j : ℕ) → option_or (option_or (position (λ r. is_held (in_row r p)) rs) (position (λ r. eqb r.address a) rs)) (position is_free rs) ≡ Some j → RowFor rs p a j
-  row-fits j e = go (position (λ r. is_held (in_row r p)) rs) refl (position (λ r. eqb r.address a) rs) refl (position is_free rs) refl e
-    where
-      go : (held : Option ℕ) → position (λ r. is_held (in_row r p)) rs ≡ held → (same : Option ℕ) → position (λ r. eqb r.address a) rs ≡ same → (free : Option ℕ) → position is_free rs ≡ free
-          → option_or (option_or held same) free ≡ Some j → RowFor rs p a j
-      go (Some i) h same s free f e =
-          let x = position-Some (λ r. is_held (in_row r p)) rs j no_row (h ∙ e) in
-          let w : j < 4 = omega (arith, g.count, x.0) in
-          record { within = w; fits = inl (mine j w x.1); only = λ k m n. g.one p k j m w n x.1 }
-      go None h (Some i) s free f e =
-          let x = position-Some (λ r. eqb r.address a) rs j no_row (s ∙ e) in
-          record { within = omega (arith, g.count, x.0); fits = inl (eqb-true (get_or rs j no_row).address a x.1); only = λ k m n. absurd (true≢false (sym n ∙ none-held h k m)) }
-      go None h None s (Some i) f e =
-          let x = position-Some is_free rs j no_row (f ∙ e) in
-          record { within = omega (arith, g.count, x.0); fits = inr x.1; only = λ k m n. absurd (true≢false (sym n ∙ none-held h k m)) }
-      go None h None s None f e = absurd (cc)
+  pub some-row : (same : Option ℕ) → LastOf rs a 4 same → (o : Option ℕ) → o ≡ option_or same (position is_free rs) → IsSome o
+  some-row same s (Some j) e = refl
+  some-row (Some i) s None e = cc
+  some-row None s None e = absurd (room (a % 16) rs p g l (none-held s) (sym e))
+
+  pub row-fits : (same : Option ℕ) → LastOf rs a 4 same → (j : ℕ) → option_or same (position is_free rs) ≡ Some j → RowFor rs p a j
+  row-fits (Some i) s j e =
+      let is : i ≡ j = cc in
+      let s : LastOf rs a 4 (Some j) = subst (λ (k : ℕ). LastOf rs a 4 (Some k)) is s in
+      record {
+        within = s.0;
+        fits = inl s.1;
+        last = s.2;
+        only = λ k m n.
+            ⊎_elim
+            (λ (e : k ≡ j). e)
+            (λ (ne : k ≢ j).
+            ⊎_elim
+            (λ (below : k < j). absurd (g.last p k j below s.0 n (s.1 ∙ sym (mine k m n))))
+            (λ (above : j ≤ k). absurd (s.2 k (omega arith) m (mine k m n)))
+            (cases_lt k j))
+            (cases_eq k j);
+      }
+  row-fits None s j e =
+      let x = position-Some is_free rs j no_row e in
+      record { within = omega (arith, g.count, x.0); fits = inr (x.1, s); last = λ i m k. s i k; only = λ k m n. absurd (true≢false (sym n ∙ none-held s k m)) }
+
+-- the version that p has of a stands in the row that can take it
+pub taken-version : (c : ℕ) (rs : List Row) (p a j : ℕ) → GoodSet c rs → RowFor rs p a j → in_rows rs p a ≡ in_row (get_or rs j no_row) p
+taken-version c rs p a j g x =
+    ⊎_elim
+    (λ (e : (get_or rs j no_row).address ≡ a). rows-only rs p a j (omega (arith, g.count, x.within)) e (λ i k s m. x.only i (omega (arith, g.count)) m))
+    (λ (f : (is_free (get_or rs j no_row) ≡ true) × ((i : ℕ) → i < 4 → (get_or rs i no_row).address ≢ a)).
+    rows-none rs p a (λ i k s m. f.1 i (omega (arith, g.count)) s) ∙ sym (unheld-none (in_row (get_or rs j no_row) p) (free-unheld (get_or rs j no_row) f.0 p)))
+    x.fits
 
 -- p's rows of a's class are of address a, where p holds no other address of the class
 pub rows-mine : (sets : List (List Row)) (c p a : ℕ) → c ≡ a % 16 → GoodSets sets → HoldsNoOther (in_sets sets p) a
@@ -300,7 +352,7 @@ put-table sets later c j p a v class_is g l x is =
     let there : (d : ℕ) → d ≢ c → get_or later d [] ≡ get_or sets d [] = λ d ne. ap (λ (t : List (List Row)). get_or t d []) is ∙ get_or-set_other sets c d new [] ne in
     let wide : p < length (get_or rs j no_row).versions = omega (arith, s.wide j x.within) in
     let fits : ((get_or rs j no_row).address ≡ a) ⊎ ((q : ℕ) → is_held (in_row (get_or rs j no_row) q) ≡ false) =
-    ⊎_elim (λ (e : (get_or rs j no_row).address ≡ a). inl e) (λ (f : is_free (get_or rs j no_row) ≡ true). inr (free-unheld (get_or rs j no_row) f)) x.fits in (
+    ⊎_elim (λ (e : (get_or rs j no_row).address ≡ a). inl e) (λ (f : (is_free (get_or rs j no_row) ≡ true) × ((i : ℕ) → i < 4 → (get_or rs i no_row).address ≢ a)). inr (free-unheld (get_or rs j no_row) f.0)) x.fits in (
       fun_ext (λ q. fun_ext (λ b.
           ⊎_elim
           (λ (e : b % 16 ≡ c).
@@ -324,17 +376,16 @@ put-table sets later c j p a v class_is g l x is =
     )
 
 -- what p holds of a class
-pub held-table : (sets : List (List Row)) (p c : ℕ) (o : Option ℕ) → GoodSets sets → c < 16 → o ≡ held_address (get_or sets c []) p → HeldIn (in_sets sets p) c o
-held-table sets p c None g l e = λ b same. ap (λ (d : ℕ). is_held (in_rows (get_or sets d []) p b)) same ∙ held_none (get_or sets c []) p b (sym e)
-held-table sets p c (Some b) g l e =
+pub held-table : (sets : List (List Row)) (p c : ℕ) (o : Option ℕ) → GoodSets sets → c < 16 → HeldBefore (get_or sets c []) p 4 o → HeldIn (in_sets sets p) c o
+held-table sets p c None g l h = λ b same.
+    ap (λ (d : ℕ). is_held (in_rows (get_or sets d []) p b)) same ∙ ap is_held (rows-unheld (get_or sets c []) p b (λ i k. h i (omega (arith, (g.each c l).count))))
+held-table sets p c (Some b) g l h =
     let rs = get_or sets c [] in
     let s = g.each c l in
-    let x = held-some rs p b (sym e) in
-    let four : x.0 < 4 = omega (arith, x.1, s.count) in
-    let class : b % 16 ≡ c = ap (λ (y : ℕ). y % 16) (sym x.3) ∙ s.class p x.0 four x.2 in (
+    let class : b % 16 ≡ c = ap (λ (y : ℕ). y % 16) (sym h.3) ∙ s.class p h.0 h.1 h.2 in (
       class,
       ap (λ (d : ℕ). is_held (in_rows (get_or sets d []) p b)) class
-          ∙ subst (λ (y : ℕ). is_held (in_rows rs p y) ≡ true) x.3 (row_shows rs p x.0 x.1 x.2),
+          ∙ subst (λ (y : ℕ). is_held (in_rows rs p y) ≡ true) h.3 (row_shows rs p h.0 (omega (arith, h.1, s.count)) h.2),
     )
 
 -- p's versions taken out
@@ -395,6 +446,8 @@ clear-table sets later p g is =
               wide = λ i k. ap (λ (r : Row). length r.versions) (row c l i k) ∙ (length-set (get_or rs i no_row).versions p no_version ∙ s.wide i k);
               one = λ q i k m n e f. s.one q i k m n (held q i m e) (held q k n f);
               class = λ q i k h. ap (λ (r : Row). r.address % 16) (row c l i k) ∙ s.class q i k (held q i k h);
+              last = λ q i k m n h same. s.last q i k m n (held q i (omega arith) h)
+                  (sym (ap (λ (r : Row). r.address) (row c l k n)) ∙ (same ∙ ap (λ (r : Row). r.address) (row c l i (omega arith))));
             };
       },
     )
@@ -421,6 +474,7 @@ new-table r sets none is =
           wide = λ i k. ap (λ (x : Row). length x.versions) (row c l i k) ∙ (ap length none ∙ length-replicate 4 no_version);
           one = λ q i k m n e f. absurd (true≢false (sym e ∙ unheld q c l i m));
           class = λ q i k h. absurd (true≢false (sym h ∙ unheld q c l i k));
+          last = λ q i k m n h same. true≢false (sym h ∙ unheld q c l i (omega arith));
         };
       },
     )

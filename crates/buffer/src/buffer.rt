@@ -67,9 +67,9 @@ impl<M: Memory> VersionStore for CentralBuffer<M> {
 
     fn load(&mut self, p: u32, a: u32) -> Answer {
         let (p, k) = self.tasks.access(self.memory.size(), p, a)?;
-        let w = self.seen(k, a)?;
         let version = self.tasks.version(p, a);
-        self.tasks.put(p, a, version.with_load());
+        let w = self.seen(k, a)?;
+        self.tasks.note_load(p, a, version);
         Ok(w)
     }
 
@@ -78,8 +78,7 @@ impl<M: Memory> VersionStore for CentralBuffer<M> {
         let active = self.tasks.order().len();
         let hit = self.tasks.squashed(k + 1, a);
         self.tasks.cut(active - hit);
-        let version = self.tasks.version(p, a);
-        self.tasks.put(p, a, version.with_store(w));
+        self.tasks.note_store(p, a, w);
         Ok(hit as u32)
     }
 

@@ -2,8 +2,8 @@
 // since each of four tasks holds at most one address of a class.
 ghost use Rattle.std.specs.Prelude.{◌≡◌, ℕ, ◌%◌, ◌<◌, true, ◌&&◌, map, length, get_or, ◌==◌, slice_index_or, slice_set};
 ghost use Rattle.std.specs.List.{position};
-ghost use Rattle.buffer.specs.Sets.{no_row, in_row, row_with, is_free, in_rows, held_address, without_row, GoodSet, GoodSets, RowFor, PutInto};
-ghost use Rattle.versions.specs.Versions.{is_held};
+ghost use Rattle.buffer.specs.Sets.{no_row, in_row, row_with, is_free, in_rows, without_row, GoodSet, GoodSets, LastOf, HeldBefore, RowFor, PutInto};
+ghost use Rattle.versions.specs.Versions.{is_held, with_store};
 
 use std::marker::Model;
 use versions::{Class, Processor, Version};
@@ -23,11 +23,21 @@ impl Row {
         self.versions[p.index()]
     }
 
-    // Whether p holds the row.
+    // Whether p holds the row. Both parts are looked at, with `|`: whether the second is needed can't be foreseen, and to ask costs more.
     fn held_by(&self, p: Processor) -> bool
         ensures { result ≡ is_held (in_row self.now p) }
     {
-        self.version(p).is_held()
+        let version = self.version(p);
+        version.mark | version.own.is_some()
+    }
+
+    // Makes v p's version, and a the address.
+    fn put(&mut self, p: Processor, a: u32, v: Version)
+        ensures row { self.new ≡ row_with self.old p a v }
+        ensures bound { p < 4 }
+    {
+        self.address = a;
+        self.versions[p.index()] = v;
     }
 
     // Takes p's version out.
@@ -68,22 +78,30 @@ impl Model for Set {
 impl Set {
     // p's version of a.
     fn version(&self, p: Processor, a: u32) -> Version
+        requires { GoodSet (a % 16) self.now }
         ensures { result ≡ in_rows self.now p a }
     {
-        self.rows
-            .iter()
-            .find(|row| row.address == a && row.held_by(p))
-            .map_or(Version::none(), |row| row.version(p))
+        match self.address_place(a) {
+            Some(j) => self.rows[j].version(p),
+            None => Version::none(),
+        }
     }
 
-    // The address that p holds.
+    // The address that p holds. All rows are looked at, as in `address_place`.
     fn held(&self, p: Processor) -> Option<u32>
-        ensures { result ≡ held_address self.now p }
+        ensures { HeldBefore self.now p 4 result }
     {
-        self.rows
-            .iter()
-            .find(|row| row.held_by(p))
-            .map(|row| row.address)
+        let mut place = 4;
+        for (j, row) in self.rows.iter().enumerate() {
+            if row.held_by(p) {
+                place = j;
+            }
+        }
+        if place < 4 {
+            Some(self.rows[place].address)
+        } else {
+            None
+        }
     }
 
     // Takes p's versions out.
@@ -102,38 +120,43 @@ impl Set {
         ensures { PutInto self.old p a v self.new }
     {
         let j = self.row_for(p, a);
-        let row = &mut self.rows[j];
-        row.address = a;
-        row.versions[p.index()] = v;
+        self.rows[j].put(p, a, v);
     }
 
-    // A row that can take p's version of a: the one that p holds, else one of the address, else a free one.
+    // Puts w over p's version of a. The row is looked for once, where `version` and then `put` would look twice.
+    fn store(&mut self, p: Processor, a: u32, w: u32)
+        requires good_set { GoodSet (a % 16) self.old }
+        requires mine { (i : ℕ) → i < 4 → is_held (in_row (slice_index_or self.old i no_row) p) ≡ true → (get_or self.old i no_row).address ≡ a }
+        ensures { PutInto self.old p a (with_store w (in_rows self.old p a)) self.new }
+    {
+        let j = self.row_for(p, a);
+        let version = self.rows[j].version(p);
+        self.rows[j].put(p, a, version.with_store(w));
+    }
+
+    // A row that can take p's version of a: the one of the address, else a free one.
     fn row_for(&self, p: Processor, a: u32) -> usize
         requires good_set { GoodSet (a % 16) self.now }
         requires mine { (i : ℕ) → i < 4 → is_held (in_row (slice_index_or self.now i no_row) p) ≡ true → (get_or self.now i no_row).address ≡ a }
         ensures { RowFor self.now p a result }
     {
-        self.held_place(p)
-            .or_else(|| self.address_place(a))
-            .or_else(|| self.free_place())
-            .unwrap()
+        // Its contract gives p < 4, which the search for a free row needs.
+        let _ = p.index();
+        self.address_place(a).or_else(|| self.free_place()).unwrap()
     }
 
-    // The place of the row that p holds. It takes p's index and not `held_by`, as the index says that p is below 4, which
-    // `row_for` needs.
-    fn held_place(&self, p: Processor) -> Option<usize>
-        ensures place { result ≡ position (λ r. is_held (in_row r p)) self.now }
-        ensures bound { p < 4 }
-    {
-        let i = p.index();
-        self.rows.iter().position(|row| row.versions[i].is_held())
-    }
-
-    // The place of a row of address a.
+    // The place of the last row of address a. All are looked at: a search that ends at the first costs more, since where it ends can't
+    // be foreseen. The place is a number until the end, 4 for none, since LLVM makes a chain of tests of an option.
     fn address_place(&self, a: u32) -> Option<usize>
-        ensures { result ≡ position (λ r. r.address == a) self.now }
+        ensures { LastOf self.now a 4 result }
     {
-        self.rows.iter().position(|row| row.address == a)
+        let mut place = 4;
+        for (j, row) in self.rows.iter().enumerate() {
+            if row.address == a {
+                place = j;
+            }
+        }
+        if place < 4 { Some(place) } else { None }
     }
 
     // The place of a free row.
@@ -188,6 +211,14 @@ impl Rows {
     {
         let set = &mut self.sets[Class::of(a).index()];
         set.put(p, a, v);
+    }
+
+    // Puts w over p's version of a. p holds no other address of a's class.
+    pub fn store(&mut self, p: Processor, a: u32, w: u32)
+        requires { HoldsNoOther (table_in self.old p) a }
+        ensures { table_in self.new ≡ with_version (table_in self.old) p a (with_store w (table_in self.old p a)) }
+    {
+        self.sets[Class::of(a).index()].store(p, a, w);
     }
 
     // Takes p's versions out of all rows.

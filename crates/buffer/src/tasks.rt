@@ -1,10 +1,10 @@
 // The active tasks of the central buffer: their order, and the rows with their versions.
 ghost use Rattle.std.specs.Prelude.{◌≡◌, ℕ, ◌+◌, ◌<◌, ◌≤◌, [], ◌∷◌, ◌++◌, length, take, drop, None};
 ghost use Rattle.versions.specs.Orders.{place_in};
-ghost use Rattle.versions.specs.Tables.{empty_table, with_version, without, without_all};
+ghost use Rattle.versions.specs.Tables.{HeldIn, empty_table, with_version, without, without_all};
 ghost use Rattle.buffer.specs.Rows.{HoldsNoOther};
 ghost use Rattle.buffer.specs.Tasks.{table_of, versions_at};
-ghost use Rattle.versions.specs.Versions.{nearest_own};
+ghost use Rattle.versions.specs.Versions.{is_held, nearest_own, with_load, with_store};
 
 use crate::rows::Rows;
 use versions::{Class, Order, Processor, TaskTable, Version};
@@ -55,6 +55,45 @@ impl Tasks {
         self.rows.put(p, a, v);
     }
 
+    // Notes in p's version v of a that it has loaded there. Where it holds a already, nothing changes, so nothing is written: most loads
+    // find it so. v is passed, since a load has looked for it before: that v is p's version is a clause, as a type can't say it.
+    pub fn note_load(&mut self, p: Processor, a: u32, v: Version)
+        requires other { HoldsNoOther (table_of self.old p) a }
+        requires version { v ≡ table_of self.old p a }
+        ensures order { self.new.order ≡ self.old.order }
+        ensures table { table_of self.new ≡ with_version (table_of self.old) p a (with_load (table_of self.old p a)) }
+    {
+        if !v.is_held() {
+            self.put(p, a, v.with_load());
+        }
+    }
+
+    // Notes in p's version of a that it has stored w there. p holds no other address of a's class.
+    pub fn note_store(&mut self, p: Processor, a: u32, w: u32)
+        requires { HoldsNoOther (table_of self.old p) a }
+        ensures order { self.new.order ≡ self.old.order }
+        ensures table { table_of self.new ≡ with_version (table_of self.old) p a (with_store w (table_of self.old p a)) }
+    {
+        self.rows.store(p, a, w);
+    }
+
+    // Whether p holds a. Both parts of the version are looked at, with `|`, as in a row.
+    fn holds(&self, p: Processor, a: u32) -> bool
+        ensures { result ≡ is_held (table_of self.now p a) }
+    {
+        let version = self.version(p, a);
+        version.mark | version.own.is_some()
+    }
+
+    // The address of class c that p holds. It is called and not copied in: few loads and stores need it, and its code would only keep
+    // LLVM from copying in what all need.
+    #[inline(never)]
+    fn held_apart(&self, p: Processor, c: Class) -> Option<u32>
+        ensures { HeldIn (table_of self.now p) c result }
+    {
+        self.held(p, c)
+    }
+
     // Removes the tasks from place k on, with their versions; k is bounded by a clause, as above.
     pub fn cut(&mut self, k: usize)
         requires { k ≤ length self.old.order }
@@ -93,5 +132,10 @@ impl TaskTable for Tasks {
 
     fn held(&self, p: Processor, c: Class) -> Option<u32> {
         self.rows.held(p, c)
+    }
+
+    // In place of the trait's, which looks for what p holds of the class first: mostly it holds a, and that is found sooner.
+    fn class_taken(&self, p: Processor, a: u32) -> bool {
+        !self.holds(p, a) && self.held_apart(p, Class::of(a)).is_some()
     }
 }

@@ -6,7 +6,7 @@ use Rattle.buffer.specs.Tasks.{table_of}
 use Rattle.versions.specs.Tables.{access_place, with_processor, Table, without_all}
 use Rattle.versions.proofs.Fits.{held-without}
 use Rattle.versions.proofs.Judging.{load-agrees, at-processor, ok-access}
-use Rattle.versions.proofs.Serving.{class-free, serve-store, store-version, hit-is}
+use Rattle.versions.proofs.Serving.{class-free, serve-store, hit-is}
 use Rattle.versions.proofs.Tabling.{placed, squashes-le}
 use Rattle.buffer.proofs.Taking.{turn-refused, turn-served}
 use Rattle.buffer.proofs.buffer.CentralBufferVersionStore.store.Goals as goal
@@ -56,8 +56,8 @@ overflow_cast-result g c =
     let long = c.len-active.ensures.value ∙ ap length c.order.ensures in
     omega (arith, squashes-le (table_of b.tasks) ps c.in_ok-p.p c.in_ok-p.k c.args.a y.0, hit, long)
 
-pub put-requires : goal.put-requires
-put-requires g c =
+pub note_store-requires : goal.note_store-requires
+note_store-requires g c =
     let b = c.args.self.now in
     let ps = b.tasks.order in
     let table = table_of b.tasks in
@@ -82,10 +82,9 @@ returns g c =
     let left : c.len-active.result - c.squashed-hit.result ≡ length ps - c.squashed-hit.result = ap (λ (n : ℕ). n - c.squashed-hit.result) long in
     turn-served m.words m.sound m.spare b (λ (p : ℕ). Store p a w) c.args.p c.in_ok-p.p c.squashed-hit.result _ at.0
     (serve-store (m.words b.memory) ps table c.requires.apart c.requires.fits c.in_ok-p.p a w c.in_ok-p.k c.squashed-hit.result
-    c.put.new.self.order (table_of c.cut.new.self) (table_of c.put.new.self)
+    c.note_store.new.self.order (table_of c.cut.new.self) (table_of c.note_store.new.self)
     (at.1 ∙ ap (λ (n : ℕ). access_place n ps table c.in_ok-p.p a) c.size.ensures) hit
-    (c.put.ensures.order ∙ (c.cut.ensures.order ∙ ap (λ (n : ℕ). take n ps) left))
+    (c.note_store.ensures.order ∙ (c.cut.ensures.order ∙ ap (λ (n : ℕ). take n ps) left))
     (c.cut.ensures.table ∙ ap (λ (n : ℕ). without_all table (drop n ps)) left)
-    (store-version (table_of c.cut.new.self) c.in_ok-p.p a w c.version-version.result c.with_store.result (table_of c.put.new.self)
-    c.version-version.ensures c.with_store.ensures c.put.ensures.table))
+    c.note_store.ensures.table)
     c.requires.memory refl

@@ -1,0 +1,44 @@
+use Rattle.std.proofs.Common.{◌≡◌, ℕ, ◌%◌, true, ◌<◌, [], List, get_or, set, sym, ap, subst, ◌∙◌, arith}
+use Rattle.std.proofs.lemmas.List.{get_or_default}
+use Rattle.versions.specs.Versions.{is_held, with_store}
+use Rattle.buffer.specs.declared.rows.Row.{Row}
+use Rattle.versions.specs.Tables.{with_version}
+use Rattle.buffer.specs.Rows.{table_in}
+use Rattle.buffer.specs.Sets.{no_row, in_row, in_rows, GoodSet, PutInto}
+use Rattle.buffer.proofs.Buffering.{rows-mine, put-table}
+use Rattle.buffer.proofs.rows.Rows.store.Goals as goal
+
+pub store-requires : goal.store-requires
+store-requires c =
+    let rows = c.args.self.now in
+    let a = c.args.a in
+    let i = c.index.result in
+    let class = c.index.ensures.value ∙ c.of.ensures in
+    let here = sym (get_or_default rows.sets i _ [] (omega (arith, rows.good.count, c.index.ensures.bound))) in
+    (record {
+      good_set = subst (GoodSet (a % 16)) here (subst (λ k. GoodSet k (get_or rows.sets i [])) class (rows.good.each i c.index.ensures.bound));
+      mine = subst (λ (rs : List Row). (j : ℕ) → j < 4 → is_held (in_row (get_or rs j no_row) c.args.p) ≡ true → (get_or rs j no_row).address ≡ a) here
+          (rows-mine rows.sets i c.args.p a class rows.good c.requires);
+    })
+
+pub invariant_of-self : goal.invariant_of-self
+invariant_of-self c =
+    let rows = c.args.self.now in
+    let i = c.index.result in
+    let v = with_store c.args.w (in_rows (get_or rows.sets i []) c.args.p c.args.a) in
+    let put = subst (λ (rs : List Row). PutInto rs c.args.p c.args.a (with_store c.args.w (in_rows rs c.args.p c.args.a)) c.store.new.self) (get_or_default rows.sets i _ [] (omega (arith, rows.good.count, c.index.ensures.bound))) c.store.ensures in
+    record {
+      good = (put-table rows.sets _ i put.place c.args.p c.args.a v (c.index.ensures.value ∙ c.of.ensures) rows.good put.bound put.takes
+          (ap (λ (rs : List Row). set rows.sets i rs) put.rows)).1;
+    }
+
+pub returns : goal.returns
+returns c =
+    let rows = c.args.self.now in
+    let i = c.index.result in
+    let v = with_store c.args.w (in_rows (get_or rows.sets i []) c.args.p c.args.a) in
+    let put = subst (λ (rs : List Row). PutInto rs c.args.p c.args.a (with_store c.args.w (in_rows rs c.args.p c.args.a)) c.store.new.self) (get_or_default rows.sets i _ [] (omega (arith, rows.good.count, c.index.ensures.bound))) c.store.ensures in
+    let class = c.index.ensures.value ∙ c.of.ensures in
+    (put-table rows.sets _ i put.place c.args.p c.args.a v class rows.good put.bound put.takes
+    (ap (λ (rs : List Row). set rows.sets i rs) put.rows)).0
+    ∙ ap (λ (d : ℕ). with_version (table_in rows) c.args.p c.args.a (with_store c.args.w (in_rows (get_or rows.sets d []) c.args.p c.args.a))) class
