@@ -67,9 +67,7 @@ impl Caches {
     {
         let mut next = None;
         for p in self.order.processors().iter().rev() {
-            let cache = &mut self.list[p.index()];
-            if cache.version(a).is_held() {
-                cache.link(a, next);
+            if self.list[p.index()].link(a, next) {
                 next = Some(p.number());
             }
         }
@@ -120,20 +118,20 @@ impl Caches {
         }
     }
 
-    // The processors from place k on that the invalidations of a store to a reach, as a sum of powers of two.
+    // The processors from place k on that the invalidations of a store to a reach, as a sum of powers of two. All tasks are gone through, also
+    // past the last that is reached: where a loop ends early can't be foreseen. k is bounded by a clause, as above.
     pub fn invalidated(&self, k: usize, a: u32) -> u32
+        requires { k ≤ length (processors_of self.now) }
         ensures { result ≡ powers (reached (λ q. table_of self.now q a) (drop k (processors_of self.now))) }
     {
         let mut mask = 0;
-        for p in self.order.processors().iter().skip(k) {
+        let mut onward = true;
+        for p in &self.order.processors()[k..] {
             let version = self.version(*p, a);
-            if version.own.is_some() {
-                if version.mark {
-                    mask += 1 << p.number();
-                }
-                return mask;
-            }
-            mask += 1 << p.number();
+            let own = version.own.is_some();
+            let reached = onward & (version.mark | !own);
+            mask += (reached as u32) << p.number();
+            onward &= !own;
         }
         mask
     }
