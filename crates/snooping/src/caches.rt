@@ -1,4 +1,6 @@
 // The four caches and the order of the active tasks.
+ghost use Rattle.std.specs.Prelude.{◌≡◌, ℕ, false, is_some, slice_index_or};
+ghost use Rattle.versions.specs.Orders.{place_in};
 ghost use Rattle.snooping.specs.Grid.{line_in, Tagged, Wide};
 
 use crate::cache::Cache;
@@ -86,10 +88,12 @@ impl Caches {
         ensures lines { lines_in self.new ≡ cut_to (processors_of self.old) (lines_in self.old) }
         ensures order { self.new.order ≡ self.old.order }
     {
+        let running = running(&self.order);
         for (p, cache) in self.list.iter_mut().enumerate() {
-            match self.order.place(p as u32) {
-                Some(_) => cache.unlink(&self.order),
-                None => cache.end_all(LineEvent::Squash),
+            if running[p] {
+                cache.unlink(&self.order, &running);
+            } else {
+                cache.end_all(LineEvent::Squash);
             }
         }
     }
@@ -125,6 +129,7 @@ impl Caches {
         ensures { result ≡ powers (reached (λ q. table_of self.now q a) (drop k (processors_of self.now))) }
     {
         let mut mask = 0;
+        // Whether none so far has an own word, which hides the later ones.
         let mut onward = true;
         for p in &self.order.processors()[k..] {
             let version = self.version(*p, a);
@@ -176,4 +181,15 @@ impl TaskTable for Caches {
         let line = self.line(p, c);
         (line.state != LineState::Invalid).then_some(line.tag)
     }
+}
+
+// Of each processor whether it has a task, and last false, for none. Looked up here, and not by the order's own search: a cut asks for each line.
+fn running(order: &Order) -> [bool; 5]
+    ensures { (q : ℕ) → slice_index_or result q false ≡ is_some (place_in order.now q) }
+{
+    let mut running = [false; 5];
+    for p in order.processors() {
+        running[p.index()] = true;
+    }
+    running
 }
