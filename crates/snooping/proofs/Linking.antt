@@ -36,15 +36,6 @@ module _ {B : Type 0} (F : Line → B) (blind : (x : Line) (n : Option ℕ) → 
 pub relinked-table : (ps : List ℕ) (a : ℕ) (ls : LineTable) → table_by (relinked ps a ls) ≡ table_by ls
 relinked-table ps a ls = fun_ext (λ q. fun_ext (λ b. relinked-same (λ x. version_at x b) (λ x n. refl) ps a ls q (b % 16)))
 
--- a line that keeps its pointer
-pub link-kept : (ls : LineTable) (p c : ℕ) → with_line ls p c (with_next (ls p c) (ls p c).next) ≡ ls
-link-kept ls p c = fun_ext (λ q. fun_ext (λ d. go q d (eqb q p) (eqb d c) refl refl))
-  where
-    go : (q d : ℕ) (t u : Bool) → eqb q p ≡ t → eqb d c ≡ u → cond (t && u) (with_next (ls p c) (ls p c).next) (ls q d) ≡ ls q d
-    go q d true true e f = ap (λ (r : ℕ). ls r c) (sym (eqb-true q p e)) ∙ ap (λ (r : ℕ). ls q r) (sym (eqb-true d c f))
-    go q d true false e f = refl
-    go q d false u e f = refl
-
 -- tags stay in their lines
 pub tagged-relinked : (ps : List ℕ) (a : ℕ) (ls : LineTable) → Tagged ls → Tagged (relinked ps a ls)
 tagged-relinked ps a ls tagged = λ q d held.

@@ -1,7 +1,6 @@
 // One processor's cache: a line for each class of addresses.
-ghost use Rattle.std.specs.Prelude.{◌≡◌, ℕ, ◌%◌, false, cond, map, is_some, replicate, slice_index_or, slice_set};
+ghost use Rattle.std.specs.Prelude.{◌≡◌, ℕ, ◌%◌, false, map, is_some, replicate, slice_index_or, slice_set};
 ghost use Rattle.versions.specs.Orders.{place_in};
-ghost use Rattle.versions.specs.Versions.{is_held};
 ghost use Rattle.snooping.specs.Lines.{blank, version_at, with_taken, with_next, ended, unlinked};
 
 use crate::line::Line;
@@ -46,17 +45,12 @@ impl Cache {
         line.take(event, a, w);
     }
 
-    // Points the line of a to another processor's line, or to none, if it holds a, and tells whether it does. The pointer is written in either case:
-    // whether a line holds a can't be foreseen, and a jump that was not foreseen takes longer.
-    pub fn link(&mut self, a: u32, next: Option<u32>) -> bool
-        ensures held { result ≡ is_held (version_at (slice_index_or self.old.lines (a % 16) blank) a) }
-        ensures lines { let line = slice_index_or self.old.lines (a % 16) blank in self.new.lines ≡ slice_set self.old.lines (a % 16) (with_next line (cond result next line.next)) }
+    // Points the line of a to another processor's line, or to none.
+    pub fn link(&mut self, a: u32, next: Option<u32>)
+        ensures { self.new.lines ≡ slice_set self.old.lines (a % 16) (with_next (slice_index_or self.old.lines (a % 16) blank) next) }
     {
         let line = &mut self.lines[Class::of(a).index()];
-        let held = line.holds(a);
-        let kept = line.next;
-        line.link(if held { next } else { kept });
-        held
+        line.link(next);
     }
 
     // Ends what the line of a holds.

@@ -69,7 +69,9 @@ impl Caches {
     {
         let mut next = None;
         for p in self.order.processors().iter().rev() {
-            if self.list[p.index()].link(a, next) {
+            let cache = &mut self.list[p.index()];
+            if cache.version(a).is_held() {
+                cache.link(a, next);
                 next = Some(p.number());
             }
         }

@@ -1,7 +1,7 @@
 // One line of a processor's cache.
 ghost use Rattle.std.specs.Prelude.{◌≡◌, ℕ, false, not, ◌&&◌, is_some, slice_index_or};
 ghost use Rattle.versions.specs.Orders.{place_in};
-ghost use Rattle.versions.specs.Versions.{is_held, is_own};
+ghost use Rattle.versions.specs.Versions.{is_own};
 ghost use Rattle.snooping.specs.Lines.{blank, version_at, with_taken, with_next, ended, unlinked};
 
 use crate::state::{LineEvent, LineState};
@@ -42,13 +42,6 @@ impl Line {
             mark: self.state.has_l(),
             own: self.state.has_s().then_some(self.word),
         }
-    }
-
-    // Whether the line holds a.
-    pub(crate) fn holds(&self, a: u32) -> bool
-        ensures { result ≡ is_held (version_at self.now a) }
-    {
-        self.tag == a && self.state != LineState::Invalid
     }
 
     // Whether a store to a needs no bus: the line has an own word of a, and nobody later has a line for a.

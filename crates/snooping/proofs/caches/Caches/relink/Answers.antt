@@ -1,12 +1,12 @@
-use Rattle.std.proofs.Common.{◌≡◌, ◌-◌, ◌%◌, ◌<◌, Bool, cond, ◌∷◌, [], ◌++◌, length, get_or, drop, set, Some, ℕ, sym, ap, ◌∙◌, subst, arith}
-use Rattle.std.proofs.lemmas.List.{length_push, length-reverse}
+use Rattle.std.proofs.Common.{◌≡◌, ◌-◌, ◌%◌, ◌<◌, ◌∷◌, [], ◌++◌, length, get_or, drop, set, Some, ℕ, sym, ap, ◌∙◌, subst, arith}
+use Rattle.std.proofs.lemmas.List.{length_push, length-reverse, set-get_or}
 use Rattle.std.proofs.lemmas.Iterator.Adapters.{YieldsList-from_rev_slice}
 use Rattle.std.proofs.lemmas.Iterator.Consumers.{YieldsList-turn, YieldsList-end}
+use Rattle.versions.specs.Versions.{is_held}
 use Rattle.snooping.specs.Caches.{lines_in, table_of, processors_of}
-use Rattle.snooping.specs.Grid.{line_in, Tagged, with_line, relinked, holder}
-use Rattle.snooping.specs.Lines.{with_next}
+use Rattle.snooping.specs.Grid.{line_in, no_cache, Tagged, Wide, relinked, holder}
 use Rattle.snooping.proofs.Grids.{wide-line, line-changed}
-use Rattle.snooping.proofs.Linking.{link-held, link-kept, link-unheld, link-none, tagged-relinked}
+use Rattle.snooping.proofs.Linking.{link-held, link-unheld, link-none, tagged-relinked}
 use Rattle.snooping.proofs.Watching.{from_back}
 use Rattle.snooping.proofs.caches.Caches.relink.Goals as goal
 
@@ -16,27 +16,23 @@ loop-p-init c =
     let law = link-none (processors_of s) c.args.a (length (processors_of s) - 0) (lines_in s) (omega arith) in
     record { can = tt; finite = tt; wide = s.wide; lines = law.0; next = law.1 }
 
-pub loop-p-preserved-then-link : goal.loop-p-preserved-then-link
-loop-p-preserved-then-link c =
+pub loop-p-preserved-then-is_held : goal.loop-p-preserved-then-is_held
+loop-p-preserved-then-is_held c =
     let s = c.args.self.now in
     let ps = processors_of s in
     let k = length c.loop-p.yielded in
     let i = c.loop-p.invariant in
-    let now = line_in c.loop-p.self.1.0 in
     let turn = YieldsList-turn (YieldsList-from_rev_slice ps cc) c.loop-p.yielded _ c.loop-p.yielded_by _ _ c.in-Some.p c.in-Some.is c.next.ensures.steps in
     let inside : k < length ps = omega (arith, turn.0, length-reverse ps) in
     let on : length ps - k - 1 ≡ length ps - length (c.loop-p.yielded ++ c.in-Some.p ∷ []) = omega (arith, length_push c.loop-p.yielded c.in-Some.p) in
     let here : c.index.result ≡ get_or ps (length ps - k - 1) c.index.result =
     subst (λ (q : ℕ). q ≡ get_or ps (length ps - k - 1) q) (sym c.index.ensures.value) (from_back ps k c.in-Some.p.now turn.0 turn.1) in
-    let line = now c.index.result (c.args.a % 16) in
-    let changed = line-changed c.loop-p.self.1.0 c.index.result c.link.new.self i.wide c.index.ensures.bound (c.args.a % 16) _ (omega arith) c.link.ensures.lines
-    ∙ ap (λ (t : Bool). with_line now c.index.result (c.args.a % 16) (with_next line (cond t c.loop-p.next line.next))) c.if-link.true in
-    let law = link-held ps c.args.a (length ps - k) (lines_in s) now (line_in (set c.loop-p.self.1.0 c.index.result c.link.new.self)) c.loop-p.next c.index.result (omega arith) (omega arith)
-    i.lines i.next here (sym c.link.ensures.held ∙ c.if-link.true) changed in
+    let law = link-held ps c.args.a (length ps - k) (lines_in s) (line_in c.loop-p.self.1.0) (line_in (set c.loop-p.self.1.0 c.index.result c.link.new.self)) c.loop-p.next c.index.result (omega arith) (omega arith)
+    i.lines i.next here (ap is_held (sym c.version.ensures) ∙ (sym c.is_held.ensures ∙ c.if-is_held.true)) (line-changed c.loop-p.self.1.0 c.index.result c.link.new.self i.wide c.index.ensures.bound (c.args.a % 16) _ (omega arith) c.link.ensures) in
     record {
       can = tt;
       finite = tt;
-      wide = wide-line c.loop-p.self.1.0 c.index.result c.link.new.self i.wide c.index.ensures.bound (c.args.a % 16) _ c.link.ensures.lines;
+      wide = wide-line c.loop-p.self.1.0 c.index.result c.link.new.self i.wide c.index.ensures.bound (c.args.a % 16) _ c.link.ensures;
       lines = law.0 ∙ ap (λ (j : ℕ). relinked (drop j ps) c.args.a (lines_in s)) on;
       next = ap Some (c.number.ensures.value ∙ sym c.index.ensures.value) ∙ (law.1 ∙ ap (λ (j : ℕ). holder (table_of s) c.args.a (drop j ps)) on);
     }
@@ -47,22 +43,19 @@ loop-p-preserved c =
     let ps = processors_of s in
     let k = length c.loop-p.yielded in
     let i = c.loop-p.invariant in
-    let now = line_in c.loop-p.self.1.0 in
     let turn = YieldsList-turn (YieldsList-from_rev_slice ps cc) c.loop-p.yielded _ c.loop-p.yielded_by _ _ c.in-Some.p c.in-Some.is c.next.ensures.steps in
     let inside : k < length ps = omega (arith, turn.0, length-reverse ps) in
     let on : length ps - k - 1 ≡ length ps - length (c.loop-p.yielded ++ c.in-Some.p ∷ []) = omega (arith, length_push c.loop-p.yielded c.in-Some.p) in
     let here : c.index.result ≡ get_or ps (length ps - k - 1) c.index.result =
     subst (λ (q : ℕ). q ≡ get_or ps (length ps - k - 1) q) (sym c.index.ensures.value) (from_back ps k c.in-Some.p.now turn.0 turn.1) in
-    let line = now c.index.result (c.args.a % 16) in
-    let changed = line-changed c.loop-p.self.1.0 c.index.result c.link.new.self i.wide c.index.ensures.bound (c.args.a % 16) _ (omega arith) c.link.ensures.lines
-    ∙ ap (λ (t : Bool). with_line now c.index.result (c.args.a % 16) (with_next line (cond t c.loop-p.next line.next))) c.if-link.false in
-    let law = link-unheld ps c.args.a (length ps - k) (lines_in s) now now c.loop-p.next c.index.result (omega arith) (omega arith)
-    i.lines i.next here (sym c.link.ensures.held ∙ c.if-link.false) in
+    let law = link-unheld ps c.args.a (length ps - k) (lines_in s) (line_in c.loop-p.self.1.0) (line_in c.loop-p.self.1.0) c.loop-p.next c.index.result (omega arith) (omega arith)
+    i.lines i.next here (ap is_held (sym c.version.ensures) ∙ (sym c.is_held.ensures ∙ c.if-is_held.false)) in
+    let same = set-get_or c.loop-p.self.1.0 c.index.result no_cache in
     record {
       can = tt;
       finite = tt;
-      wide = wide-line c.loop-p.self.1.0 c.index.result c.link.new.self i.wide c.index.ensures.bound (c.args.a % 16) _ c.link.ensures.lines;
-      lines = changed ∙ (link-kept now c.index.result (c.args.a % 16) ∙ (law.0 ∙ ap (λ (j : ℕ). relinked (drop j ps) c.args.a (lines_in s)) on));
+      wide = subst Wide (sym same) i.wide;
+      lines = ap line_in same ∙ (law.0 ∙ ap (λ (j : ℕ). relinked (drop j ps) c.args.a (lines_in s)) on);
       next = law.1 ∙ ap (λ (j : ℕ). holder (table_of s) c.args.a (drop j ps)) on;
     }
 
