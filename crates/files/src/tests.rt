@@ -1,4 +1,4 @@
-// What no contract says of a file, and one run over a source whose bytes are known.
+// What no contract says of a file, and two runs over sources whose bytes are known.
 use crate::{fill, read_start, take_most};
 use std::test::Fail;
 

@@ -5,7 +5,7 @@ use Rattle.std.specs.Str.{all_ascii_digits}
 use Rattle.player.specs.declared.fault.TextWhy.{TextWhy}
 use Rattle.player.specs.declared.fault.TextWhy.TheVariants.{Field, TooLarge}
 
--- digits only, at least one, and no zero before another digit
+-- digits only, at least one, and not beginning with 0 unless it is 0 alone
 abbrev pub plain_decimal : List ℕ → Bool
 plain_decimal [] = false
 plain_decimal (d ∷ []) = all_ascii_digits (d ∷ [])

@@ -9,7 +9,7 @@ ghost use Rattle.player.specs.Image.{fault_at};
 use std::error::Error;
 use std::fmt;
 
-// It has one case, whose number stands at it as with every fault.
+// It has one case, whose number stands at it as with a fault of an image.
 #[derive(Clone, Copy, PartialEq, Debug)]
 pub enum ListFault {
     // The list is full.

@@ -147,8 +147,8 @@ impl<'a> Iterator for Pairs<'a> {
     }
 }
 
-// The first number of some bytes, and the bytes after it. Here and in `first_pair` an image is taken apart by named bytes, four and eight:
-// that is a rule for this code.
+// The first number of some bytes, and the bytes after it. Here and in `first_pair` an image is taken apart by named bytes, four and eight,
+// so that each byte of the format has its name in the code.
 fn first_number(bytes: &[u8]) -> Option<(u32, &[u8])>
     ensures { MatchOption result (length bytes.now < 4) (λ x. (words_of bytes.now ≡ x.0 ∷ words_of x.1.now) × (length bytes.now ≡ 4 + length x.1.now)) }
 {

@@ -1,5 +1,5 @@
 // What stands between files and a version store: lists over lent rows, images that fill a memory before the turns, turns
-// as text, and the faults of all three.
+// as text, and the faults of all three; playing an image and a text on a store; and the listing of what was played.
 #![tactic(auto)]
 
 mod fault;

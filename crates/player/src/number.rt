@@ -20,7 +20,7 @@ pub fn number(part: &[u8]) -> Result<u32, TextWhy>
     digits.parse().map_err(|_| TextWhy::TooLarge)
 }
 
-// Whether the part is plain decimal: digits only, at least one, and no zero before another digit.
+// Whether the part is plain decimal: digits only, at least one, and not beginning with 0 unless it is 0 alone.
 fn is_plain(part: &[u8]) -> bool
     ensures { result ≡ plain_decimal part.now }
 {

@@ -69,6 +69,8 @@ fn the_length_must_be_as_counted(rt: HostRuntime) -> Result<(), Fail> {
     refuses(&rt, &[0], 1, ImageWhy::Length, 3)?;
     refuses(&rt, &[1, 0, 1], 1, ImageWhy::Length, 11)?;
     refuses(&rt, &[1, 0, 1], 0, ImageWhy::Length, 12)?;
+    // Its one whole pair has no word, but the pairs are cut off.
+    refuses(&rt, &[2, 0, 0], 0, ImageWhy::Length, 12)?;
     refuses(&rt, &[1, 0, 1, 70], 1, ImageWhy::Length, 15)?;
     refuses(&rt, &[1, 0, 1, 70, 71], 3, ImageWhy::Length, 17)?;
     refuses(&rt, &[0, 0], 0, ImageWhy::Length, 8)
@@ -144,5 +146,40 @@ fn sixty_four_pairs_are_loaded_and_one_more_is_refused(rt: HostRuntime) -> Resul
         [row[0], row[1], row[2], row[126], row[127]],
         [100, 7, 101, 163, 7]
     );
+    Ok(())
+}
+
+// The numbers of an image of 64 pairs: one word each at every second address from 0 on, and the last pair.
+fn pairs_before(heap: Global, offset: u32, len: u32) -> Result<Vec<u32>, Fail> {
+    let mut numbers = Vec::new(heap);
+    numbers.push(64)?;
+    for i in 0..63 {
+        numbers.push(2 * i)?;
+        numbers.push(1)?;
+    }
+    numbers.push(offset)?;
+    numbers.push(len)?;
+    Ok(numbers)
+}
+
+// The last of 64 pairs begins at byte 4 + 8 * 63.
+#[test]
+fn the_last_of_64_pairs_is_checked_like_the_first(rt: HostRuntime) -> Result<(), Fail> {
+    let mut row = [7; 130];
+    let numbers = pairs_before(rt.alloc(), 126, 0)?;
+    let fault = ImageFault {
+        why: ImageWhy::PairOrder,
+        place: 508,
+    };
+    let told = load_numbers(&rt, &mut row, numbers.as_slice(), 0)?;
+    assert_eq!(rt; told, Err(fault));
+    let numbers = pairs_before(rt.alloc(), 130, 1)?;
+    let fault = ImageFault {
+        why: ImageWhy::PairOutside,
+        place: 508,
+    };
+    let told = load_numbers(&rt, &mut row, numbers.as_slice(), 0)?;
+    assert_eq!(rt; told, Err(fault));
+    assert_eq!(rt; row, [7; 130]);
     Ok(())
 }

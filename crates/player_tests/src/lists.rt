@@ -57,3 +57,14 @@ fn turns_and_answers_are_held_alike(rt: HostRuntime) -> Result<(), Fail> {
     assert_eq!(rt; answers.get(0), Some(Err(Refusal::NoTask)));
     Ok(())
 }
+
+#[test]
+fn a_list_over_no_row_takes_nothing(rt: HostRuntime) -> Result<(), Fail> {
+    let mut row = [9u8; 0];
+    let mut list = RowList::new(&mut row);
+    assert!(rt; list.is_empty());
+    assert!(rt; list.is_full());
+    assert_eq!(rt; list.push(1), Err(ListFault::Full));
+    assert_eq!(rt; list.get(0), None);
+    Ok(())
+}

@@ -2,7 +2,7 @@
 use memory::WordMemory;
 use player::{ImageFault, ImageWhy, Loading};
 use std::test::*;
-use stores::{CentralBuffer, VersionStore};
+use stores::{CentralBuffer, SnoopingStore, VersionStore};
 
 #[test]
 fn images_come_one_after_another_and_then_the_turns(rt: HostRuntime) -> Result<(), Fail> {
@@ -30,5 +30,22 @@ fn images_come_one_after_another_and_then_the_turns(rt: HostRuntime) -> Result<(
     assert_eq!(rt; stored, Ok(0));
     assert_eq!(rt; committed, Ok(1));
     assert_eq!(rt; row, [0, 70, 71, 72]);
+    Ok(())
+}
+
+#[test]
+fn a_snooping_store_opens_over_the_words_of_the_image(rt: HostRuntime) -> Result<(), Fail> {
+    let mut row = [0u32; 4];
+    assert!(rt; WordMemory::check(&row).is_ok());
+    let mut loading = Loading::new(WordMemory::open(&mut row));
+    let loaded = loading.load(&[1, 0, 0, 0, 3, 0, 0, 0, 1, 0, 0, 0, 70, 0, 0, 0]);
+    let mut caches = loading.open::<SnoopingStore<WordMemory>>();
+    let word = caches.word(3);
+    let tasks = caches.tasks();
+    let _ = caches.close();
+    assert_eq!(rt; loaded, Ok(()));
+    assert_eq!(rt; word, Ok(70));
+    assert_eq!(rt; tasks, 0);
+    assert_eq!(rt; row, [0, 0, 0, 70]);
     Ok(())
 }

@@ -1,7 +1,7 @@
 // Images and texts that are played on both stores, and their listings.
 ghost use Rattle.std.specs.Prelude.{◌≤◌};
 
-use memory::{ByteMemory, WordMemory};
+use memory::{ByteMemory, Memory, WordMemory};
 use player::{Input, Lists, Played, RowList, listing, play_both, play_on, words_of};
 use std::process::Abort;
 use std::test::*;
@@ -168,4 +168,80 @@ fn both_stores_give_one_listing(rt: HostRuntime) -> Result<(), Fail> {
     )?;
     both_play(&rt, &image, "start 0\nstore 0 5\n", "fault text 14 8\n")?;
     both_play(&rt, &image[..12], "start 0\n", "fault image 9 12\n")
+}
+
+// What an image and a text leave over 64 words: how many turns are read and answered, and the word at 5.
+fn leaves<const PLACES: usize>(
+    rt: &impl Abort,
+    image: &[u8],
+    text: &str,
+    number: u8,
+    place: usize,
+    left: (usize, usize, u32),
+) -> Result<(), Fail>
+    requires { PLACES ≤ 8 }
+{
+    let mut turns = [Turn::Start { p: 0 }; 8];
+    let mut answers = [Ok(0); PLACES];
+    let mut lists = Lists {
+        turns: RowList::new(&mut turns),
+        answers: RowList::new(&mut answers),
+    };
+    let input = Input {
+        image,
+        text: text.as_bytes(),
+    };
+    let mut words = [0; 64];
+    let (mut memory, outcome) = play_on::<SnoopingStore<WordMemory>>(
+        WordMemory::open(&mut words),
+        input,
+        &mut lists,
+    );
+    let Err(fault) = outcome else {
+        return Err(Fail::new("there was no fault"));
+    };
+    assert_eq!(rt;
+        (fault.number(), fault.place()),
+        (number, place),
+        "{}",
+        text
+    );
+    let word = memory.read(5)?;
+    assert_eq!(rt;
+        (lists.turns.len(), lists.answers.len(), word),
+        left,
+        "{}",
+        text
+    );
+    Ok(())
+}
+
+// The commit has no place for its answer: it is not played, so that its word stays with the task. The turns before it are.
+#[test]
+fn a_turn_without_a_place_is_not_played(rt: HostRuntime) -> Result<(), Fail> {
+    let text = "start 0\nstore 0 5 7\ncommit 0\n";
+    leaves::<2>(&rt, &[0; 4], text, 16, 2, (3, 2, 0))?;
+    leaves::<0>(&rt, &[0; 4], text, 16, 0, (3, 0, 0))?;
+    let text = "start 0\nstore 0 5 7\ncommit 0\nstart 1\n";
+    leaves::<3>(&rt, &[0; 4], text, 16, 3, (4, 3, 7))
+}
+
+// The image's word is there; the turns before the fault are read, and none is played.
+#[test]
+fn a_refused_text_leaves_the_words_of_the_image(rt: HostRuntime) -> Result<(), Fail> {
+    let image = [1, 0, 0, 0, 5, 0, 0, 0, 1, 0, 0, 0, 8, 0, 0, 0];
+    leaves::<8>(
+        &rt,
+        &image,
+        "start 0\nstore 0 5 7\ncommit 0\nstop\n",
+        13,
+        29,
+        (3, 0, 8),
+    )
+}
+
+#[test]
+fn a_refused_image_leaves_all(rt: HostRuntime) -> Result<(), Fail> {
+    let image = [1, 0, 0, 0, 5, 0, 0, 0, 1, 0, 0, 0, 8, 0, 0];
+    leaves::<8>(&rt, &image, "start 0\n", 9, 15, (0, 0, 0))
 }

@@ -1,5 +1,5 @@
 // Texts that are read whole, and written again.
-use player::{RowList, read_turns, write_turn, write_turns};
+use player::{MOST_BYTES, RowList, read_turns, write_turn, write_turns};
 use std::alloc::Global;
 use std::test::*;
 use stores::Turn;
@@ -88,5 +88,63 @@ fn a_list_that_has_turns_keeps_them(rt: HostRuntime) -> Result<(), Fail> {
     read_turns("start 2\n".as_bytes(), &mut list)?;
     assert_eq!(rt; list.len(), 2);
     assert_eq!(rt; list.get(0), Some(Turn::Start { p: 1 }));
+    Ok(())
+}
+
+// So many times a line.
+fn repeated(heap: Global, line: &str, count: u32) -> Result<String, Fail> {
+    let mut text = String::new(heap);
+    for _ in 0..count {
+        text.push_str(line)?;
+    }
+    Ok(text)
+}
+
+// 1,365 lines of 24 bytes end at byte 32,760, and the next line has eight bytes left: `store 3 `.
+#[test]
+fn a_text_cut_in_a_line_is_at_fault_there(rt: HostRuntime) -> Result<(), Fail> {
+    let text = repeated(rt.alloc(), "store 3 4095 4294967295\n", 1366)?;
+    let Some(start) = text.as_bytes().get(..MOST_BYTES) else {
+        return Err(Fail::new("the text is too short"));
+    };
+    let mut row = vec![in rt.alloc(); Turn::Start { p: 0 }; 2048]?;
+    let mut list = RowList::new(row.as_mut_slice());
+    let Err(fault) = read_turns(start, &mut list) else {
+        return Err(Fail::new("the text was accepted"));
+    };
+    assert_eq!(rt;
+        (fault.why.number(), fault.place, list.len()),
+        (14, 32760, 1365)
+    );
+    Ok(())
+}
+
+// 2,048 lines of 16 bytes are 32,768 bytes: the text is cut right after a line, and the list is just full.
+#[test]
+fn a_text_cut_after_a_line_is_whole(rt: HostRuntime) -> Result<(), Fail> {
+    let text = repeated(rt.alloc(), "load 3 10000000\n", 2049)?;
+    let Some(start) = text.as_bytes().get(..MOST_BYTES) else {
+        return Err(Fail::new("the text is too short"));
+    };
+    let mut row = vec![in rt.alloc(); Turn::Start { p: 0 }; 2048]?;
+    let mut list = RowList::new(row.as_mut_slice());
+    read_turns(start, &mut list)?;
+    assert_eq!(rt; list.len(), 2048);
+    Ok(())
+}
+
+#[test]
+fn no_turn_is_no_text(rt: HostRuntime) -> Result<(), Fail> {
+    let text = write_turns(rt.alloc(), &[])?;
+    assert_eq!(rt; text.as_str(), "");
+    Ok(())
+}
+
+#[test]
+fn a_zero_may_stand_inside_and_at_the_end_of_a_field(rt: HostRuntime) -> Result<(), Fail> {
+    let mut row = [Turn::Start { p: 0 }; 1];
+    let mut list = RowList::new(&mut row);
+    read_turns("load 0 1001\n".as_bytes(), &mut list)?;
+    assert_eq!(rt; list.get(0), Some(Turn::Load { p: 0, a: 1001 }));
     Ok(())
 }
