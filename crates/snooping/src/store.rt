@@ -13,7 +13,9 @@ use crate::line::Line;
 use crate::report::{BusReport, Supplier};
 use crate::state::LineEvent;
 use memory::Memory;
-use versions::{Answer, Class, Processor, Refusal, TaskTable, VersionStore, write_back, write_own};
+use versions::{
+    Answer, Class, Processor, Refusal, TaskTable, Turn, VersionStore, write_back, write_own,
+};
 
 pub struct SnoopingStore<M> {
     memory: M,
@@ -95,8 +97,9 @@ impl<M: Memory> VersionStore for SnoopingStore<M> {
             return Ok(0);
         }
         // The invalidations go out before the tasks that they squash are gone.
-        let mask = self.caches.invalidated(k + 1, a);
-        let hit = self.caches.squashed(k + 1, a);
+        let later = k + 1;
+        let mask = self.caches.invalidated(later, a);
+        let hit = self.caches.squashed(later, a);
         self.caches.cut_last(hit);
         self.caches.take_and_relink(p, LineEvent::Store, a, w);
         self.report = BusReport::bus_write(a, mask);
@@ -148,6 +151,19 @@ impl<M: Memory> VersionStore for SnoopingStore<M> {
 
     fn size(&self) -> u32 {
         self.memory.size()
+    }
+
+    // As the trait has it. It stands here for the hint alone: without it each turn is called through one jump more that can't be foreseen.
+    #[inline(always)]
+    fn take_turn(&mut self, turn: Turn) -> Answer {
+        match turn {
+            Turn::Start { p } => self.start(p),
+            Turn::Load { p, a } => self.load(p, a),
+            Turn::Store { p, a, w } => self.store(p, a, w),
+            Turn::Squash { p } => self.squash(p),
+            Turn::Commit { p } => self.commit(p),
+            Turn::Replace { p, a } => self.replace(p, a),
+        }
     }
 
     fn close(self) -> M {
