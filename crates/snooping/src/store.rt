@@ -13,9 +13,7 @@ use crate::line::Line;
 use crate::report::{BusReport, Supplier};
 use crate::state::LineEvent;
 use memory::Memory;
-use versions::{
-    Answer, Class, Processor, Refusal, TaskTable, Turn, VersionStore, write_back, write_own,
-};
+use versions::{Answer, Class, Processor, Refusal, TaskTable, VersionStore, write_back, write_own};
 
 pub struct SnoopingStore<M> {
     memory: M,
@@ -151,19 +149,6 @@ impl<M: Memory> VersionStore for SnoopingStore<M> {
 
     fn size(&self) -> u32 {
         self.memory.size()
-    }
-
-    // As the trait has it. It stands here for the hint alone: without it each turn is called through one jump more that can't be foreseen.
-    #[inline(always)]
-    fn take_turn(&mut self, turn: Turn) -> Answer {
-        match turn {
-            Turn::Start { p } => self.start(p),
-            Turn::Load { p, a } => self.load(p, a),
-            Turn::Store { p, a, w } => self.store(p, a, w),
-            Turn::Squash { p } => self.squash(p),
-            Turn::Commit { p } => self.commit(p),
-            Turn::Replace { p, a } => self.replace(p, a),
-        }
     }
 
     fn close(self) -> M {
