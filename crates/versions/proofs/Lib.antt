@@ -13,3 +13,4 @@ pub mod Classes
 pub mod Stepping
 pub mod Serving
 pub mod Mapping
+pub mod Placing

@@ -1,14 +1,36 @@
 // The order of the active tasks: at most four processors, oldest first, none twice.
 ghost use Rattle.std.specs.Prelude.{◌≡◌, ℕ, ◌<◌, ◌≤◌, [], ◌∷◌, ◌++◌, length, take, drop, None, slice_index};
-ghost use Rattle.versions.specs.Orders.{place_in, Apart};
+ghost use Rattle.versions.specs.Orders.{place_in, Apart, kept_below, moved_down};
 
 use crate::processor::Processor;
 use arrayvec::ArrayVec;
 use std::marker::Model;
 
+// How many processors there are; as a place it stands for none.
+const PROCESSORS: usize = 4;
+
+// A place after a cut to the k oldest.
+fn kept_below(k: usize, place: usize) -> usize
+    ensures { result ≡ kept_below k place }
+{
+    if place < k { place } else { PROCESSORS }
+}
+
+// A place after the oldest has gone.
+fn moved_down(place: usize) -> usize
+    ensures { result ≡ moved_down place }
+{
+    match place {
+        0 | PROCESSORS => PROCESSORS,
+        _ => place - 1,
+    }
+}
+
 #[derive(Clone, Drop)]
 pub struct Order {
     list: ArrayVec<Processor, 4>,
+    // The place of each processor, or 4. Each turn asks for one, and a search of the list would cost a tenth of a turn.
+    places: [usize; PROCESSORS],
 }
 
 // A clause sees an order as its processors. That they are apart, other crates do not see of the type: the calls that they use
@@ -18,11 +40,11 @@ impl Model for Order {
 
     ghost Value = { List ℕ };
 
-    ghost use Rattle.versions.specs.Orders.{Apart};
+    ghost use Rattle.versions.specs.Orders.{Apart, Placing};
 
     ghost view = { λ o. o.list.items };
 
-    ghost invariant = { λ o. Apart o.list.items };
+    ghost invariant = { λ o. Apart o.list.items × Placing o.list.items o.places };
 }
 
 impl Order {
@@ -32,6 +54,7 @@ impl Order {
     {
         Order {
             list: ArrayVec::new(),
+            places: [PROCESSORS; PROCESSORS],
         }
     }
 
@@ -53,20 +76,17 @@ impl Order {
         self.list.as_slice()
     }
 
-    // The place of p, from 0 for the oldest. All are looked at: a search that ends at the first costs more, since where it ends can't be
-    // foreseen. (With `position` a turn of the snooping store took a quarter longer.)
+    // The place of p, from 0 for the oldest.
     pub fn place(&self, p: u32) -> Option<usize>
         ensures value { result ≡ place_in self.now p }
         ensures apart { Apart self.now }
     {
-        // 4 for none: kept as an option it would be a chain of tests.
-        let mut place = 4;
-        for (k, q) in self.processors().iter().enumerate() {
-            if q.number() == p {
-                place = k;
-            }
+        let place = *self.places.get(p as usize)?;
+        if place < PROCESSORS {
+            Some(place)
+        } else {
+            None
         }
-        if place < 4 { Some(place) } else { None }
     }
 
     // The processor at a place. What k may be is a clause here and below: it depends on how many tasks there are, which no type of
@@ -83,8 +103,7 @@ impl Order {
         requires { place_in self.old p ≡ None }
         ensures { self.new ≡ self.old ++ p ∷ [] }
     {
-        // Its contract gives p < 4, which the order's invariant needs.
-        let _ = p.number();
+        self.places[p.index()] = self.list.len();
         self.list.push(p);
     }
 
@@ -93,6 +112,9 @@ impl Order {
         requires { k ≤ length self.old }
         ensures { self.new ≡ take k self.old }
     {
+        for place in self.places.iter_mut() {
+            *place = kept_below(k, *place);
+        }
         self.list.truncate(k);
     }
 
@@ -101,6 +123,9 @@ impl Order {
         requires { 0 < length self.old }
         ensures { self.new ≡ drop 1 self.old }
     {
+        for place in self.places.iter_mut() {
+            *place = moved_down(*place);
+        }
         let _ = self.list.remove(0);
     }
 }
