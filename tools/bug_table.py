@@ -56,7 +56,7 @@ These were tried too. The prover passes them, since no contract can say more, an
 
 | Bug | Why no contract refuses it | What looks there |
 |---|---|---|
-@SURVIVORS@
+| `model_play_central` gives 0 and writes nothing where the text is empty | a listing may be left out where writing a text fails, and no contract says when it does | `tools/compare.sh` plays empty texts, and compares the listing with the independent implementation's |
 """
 
 
