@@ -1,5 +1,6 @@
 // One processor's cache: a line for each class of addresses.
-ghost use Rattle.std.specs.Prelude.{◌≡◌, ◌%◌, map, replicate, slice_index_or, slice_set};
+ghost use Rattle.std.specs.Prelude.{◌≡◌, ℕ, ◌%◌, false, map, is_some, replicate, slice_index_or, slice_set};
+ghost use Rattle.versions.specs.Orders.{place_in};
 ghost use Rattle.snooping.specs.Lines.{blank, version_at, with_taken, with_next, ended, unlinked};
 
 use crate::line::Line;
@@ -70,11 +71,12 @@ impl Cache {
     }
 
     // Ends pointers to processors without a task.
-    pub fn unlink(&mut self, order: &Order)
+    pub fn unlink(&mut self, order: &Order, running: &[bool])
+        requires { (q : ℕ) → slice_index_or running.now q false ≡ is_some (place_in order.now q) }
         ensures { self.new.lines ≡ map (unlinked order.now) self.old.lines }
     {
         for line in self.lines.iter_mut() {
-            line.unlink(order);
+            line.unlink(order, running);
         }
     }
 }

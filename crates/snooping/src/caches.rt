@@ -1,4 +1,6 @@
 // The four caches and the order of the active tasks.
+ghost use Rattle.std.specs.Prelude.{◌≡◌, ℕ, false, is_some, slice_index_or};
+ghost use Rattle.versions.specs.Orders.{place_in};
 ghost use Rattle.snooping.specs.Grid.{line_in, Tagged, Wide};
 
 use crate::cache::Cache;
@@ -88,10 +90,12 @@ impl Caches {
         ensures lines { lines_in self.new ≡ cut_to (processors_of self.old) (lines_in self.old) }
         ensures order { self.new.order ≡ self.old.order }
     {
+        let running = running(&self.order);
         for (p, cache) in self.list.iter_mut().enumerate() {
-            match self.order.place(p as u32) {
-                Some(_) => cache.unlink(&self.order),
-                None => cache.end_all(LineEvent::Squash),
+            if running[p] {
+                cache.unlink(&self.order, &running);
+            } else {
+                cache.end_all(LineEvent::Squash);
             }
         }
     }
@@ -120,20 +124,21 @@ impl Caches {
         }
     }
 
-    // The processors from place k on that the invalidations of a store to a reach, as a sum of powers of two.
+    // The processors from place k on that the invalidations of a store to a reach, as a sum of powers of two. All tasks are gone through, also
+    // past the last that is reached: where a loop ends early can't be foreseen. k is bounded by a clause, as above.
     pub fn invalidated(&self, k: usize, a: u32) -> u32
+        requires { k ≤ length (processors_of self.now) }
         ensures { result ≡ powers (reached (λ q. table_of self.now q a) (drop k (processors_of self.now))) }
     {
         let mut mask = 0;
-        for p in self.order.processors().iter().skip(k) {
+        // Whether none so far has an own word, which hides the later ones.
+        let mut onward = true;
+        for p in &self.order.processors()[k..] {
             let version = self.version(*p, a);
-            if version.own.is_some() {
-                if version.mark {
-                    mask += 1 << p.number();
-                }
-                return mask;
-            }
-            mask += 1 << p.number();
+            let own = version.own.is_some();
+            let reached = onward & (version.mark | !own);
+            mask += (reached as u32) << p.number();
+            onward &= !own;
         }
         mask
     }
@@ -178,4 +183,15 @@ impl TaskTable for Caches {
         let line = self.line(p, c);
         (line.state != LineState::Invalid).then_some(line.tag)
     }
+}
+
+// Of each processor whether it has a task, and last false, for none. Looked up here, and not by the order's own search: a cut asks for each line.
+fn running(order: &Order) -> [bool; 5]
+    ensures { (q : ℕ) → slice_index_or result q false ≡ is_some (place_in order.now q) }
+{
+    let mut running = [false; 5];
+    for p in order.processors() {
+        running[p.index()] = true;
+    }
+    running
 }

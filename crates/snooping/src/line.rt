@@ -1,5 +1,6 @@
 // One line of a processor's cache.
-ghost use Rattle.std.specs.Prelude.{◌≡◌, ℕ, not, ◌&&◌, is_some};
+ghost use Rattle.std.specs.Prelude.{◌≡◌, ℕ, false, not, ◌&&◌, is_some, slice_index_or};
+ghost use Rattle.versions.specs.Orders.{place_in};
 ghost use Rattle.versions.specs.Versions.{is_own};
 ghost use Rattle.snooping.specs.Lines.{blank, version_at, with_taken, with_next, ended, unlinked};
 
@@ -76,10 +77,15 @@ impl Line {
         self.next = None;
     }
 
-    // Ends a pointer to a processor that has no task.
-    pub(crate) fn unlink(&mut self, order: &Order)
-        ensures { self.new ≡ unlinked order.now self.old }
+    // Ends a pointer to a processor that has no task: `running` has of each whether it has one, and last, for a line without a pointer, false. The
+    // pointer is written in any case, since whether there is one can't be foreseen. (The order is named by the contract alone.)
+    pub(crate) fn unlink(&mut self, _order: &Order, running: &[bool])
+        requires { (q : ℕ) → slice_index_or running.now q false ≡ is_some (place_in _order.now q) }
+        ensures { self.new ≡ unlinked _order.now self.old }
     {
-        self.next = self.next.filter(|p| order.place(*p).is_some());
+        let kept = self.next;
+        let p = kept.unwrap_or(4) as usize;
+        let stays = p < running.len() && running[p];
+        self.next = if stays { kept } else { None };
     }
 }

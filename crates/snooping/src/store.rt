@@ -95,8 +95,9 @@ impl<M: Memory> VersionStore for SnoopingStore<M> {
             return Ok(0);
         }
         // The invalidations go out before the tasks that they squash are gone.
-        let mask = self.caches.invalidated(k + 1, a);
-        let hit = self.caches.squashed(k + 1, a);
+        let later = k + 1;
+        let mask = self.caches.invalidated(later, a);
+        let hit = self.caches.squashed(later, a);
         self.caches.cut_last(hit);
         self.caches.take_and_relink(p, LineEvent::Store, a, w);
         self.report = BusReport::bus_write(a, mask);

@@ -1,7 +1,8 @@
 -- Laws of the order of the active tasks: the place of a processor in it, and that no processor is in it twice.
-use Rattle.std.proofs.Common.{◌≡◌, ℕ, zero, suc, ◌<◌, ◌≤◌, Bool, true, false, cond, eqb, List, [], ◌∷◌, ◌++◌, length, get_or, take, drop, Some, None, Option, sym, refl, arith}
+use Rattle.std.proofs.Common.{◌≡◌, ℕ, zero, suc, ◌+◌, ◌<◌, ◌≤◌, Bool, true, false, cond, eqb, ltb, List, [], ◌∷◌, ◌++◌, length, get_or, take, drop, Some, None, Option, sym, refl, ap, ◌∙◌, subst, arith}
 use Rattle.std.specs.Option.{option_map}
-use Rattle.std.proofs.lemmas.Bool.{ne_eqb, eqb-false}
+use Rattle.std.proofs.lemmas.Bool.{ne_eqb, eq-eqb, eqb-false, cond-true, lt-ltb}
+use Rattle.std.proofs.lemmas.List.{take_more, length-take-le}
 use Rattle.versions.specs.Orders.{place_in, Apart}
 
 pub none-some : {A : Type 0} (x : A) → Some x ≡ None → ⊥
@@ -52,6 +53,39 @@ apart-take (suc k) (q ∷ qs) a = (a.0, place-none-take k qs q a.1, apart-take k
 pub apart-drop : (qs : List ℕ) → Apart qs → Apart (drop 1 qs)
 apart-drop [] a = tt
 apart-drop (q ∷ qs) a = a.2
+
+-- the place of p after one more is looked at
+place-other : (qs : List ℕ) (q p : ℕ) → eqb q p ≡ false → place_in (qs ++ q ∷ []) p ≡ place_in qs p
+place-other [] q p other = rw other
+place-other (r ∷ qs) q p other = ap (λ (o : Option ℕ). cond (eqb r p) (Some 0) (option_map suc o)) (place-other qs q p other)
+
+place-found : (qs : List ℕ) (q p : ℕ) → place_in qs p ≡ None → eqb q p ≡ true → place_in (qs ++ q ∷ []) p ≡ Some (length qs)
+place-found [] q p none same = rw same
+place-found (r ∷ qs) q p none same =
+    let n = place_none r qs p none in
+    rw (n.0, place-found qs q p n.1 same)
+
+none-at : (qs : List ℕ) (p i : ℕ) → place_in qs p ≡ None → i < length qs → eqb (get_or qs i 0) p ≡ false
+none-at [] p i none h = absurd (omega arith)
+none-at (q ∷ qs) p zero none h = (place_none q qs p none).0
+none-at (q ∷ qs) p (suc i) none h = none-at qs p i (place_none q qs p none).1 (omega arith)
+
+-- a processor is not among those before it
+none_before : (qs : List ℕ) (i : ℕ) → Apart qs → i < length qs → place_in (take i qs) (get_or qs i 0) ≡ None
+none_before [] i a h = absurd (omega arith)
+none_before (q ∷ qs) zero a h = refl
+none_before (q ∷ qs) (suc i) a h = place-none-cons q (take i qs) (get_or qs i 0) (eqb-sym (get_or qs i 0) q (none-at qs q i a.1 (omega arith))) (none_before qs i a.2 (omega arith))
+
+-- a place below 4, or none
+pub looked-found : (qs : List ℕ) (k p : ℕ) → Apart qs → k < length qs → k < 4 → get_or qs k 0 ≡ p → cond (ltb k 4) (Some k) None ≡ place_in (take (k + 1) qs) p
+looked-found qs k p a h few is =
+    let none : place_in (take k qs) p ≡ None = subst (λ (q : ℕ). place_in (take k qs) q ≡ None) is (none_before qs k a h) in
+    let found = place-found (take k qs) (get_or qs k 0) p none (eq-eqb (get_or qs k 0) p is) in
+    cond-true (ltb k 4) (Some k) None (lt-ltb k 4 few)
+    ∙ (sym (found ∙ ap Some (length-take-le k qs (omega (arith, h)))) ∙ ap (λ (l : List ℕ). place_in l p) (sym (take_more qs k 0 h)))
+
+pub looked-other : (qs : List ℕ) (k p : ℕ) (o : Option ℕ) → k < length qs → (get_or qs k 0 ≡ p → ⊥) → o ≡ place_in (take k qs) p → o ≡ place_in (take (k + 1) qs) p
+looked-other qs k p o h other is = is ∙ (sym (place-other (take k qs) (get_or qs k 0) p (ne_eqb (get_or qs k 0) p other)) ∙ ap (λ (l : List ℕ). place_in l p) (sym (take_more qs k 0 h)))
 
 differs : (a b : ℕ) → eqb a b ≡ false → a ≡ b → ⊥
 differs a b e = eqb-false a b e

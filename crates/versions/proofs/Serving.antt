@@ -179,17 +179,6 @@ pub ok-value : (w v : ℕ) → ◌≡◌ {A = Result ℕ Refusal} (Ok w) (Ok v) 
 ok-value w v e = cc
 
 -- a load, as the buffer serves it: from the tasks t to the tasks u, with the version v put
-pub load-version : (table now : Table) (p a : ℕ) (v loaded : Version) (later : Table) → now ≡ table → v ≡ now p a → loaded ≡ with_load v → later ≡ with_version now p a loaded
-    → later ≡ with_version table p a (with_load (table p a))
-load-version table now p a v loaded later same v-is loaded-is later-is =
-    later-is
-    ∙ (ap (with_version now p a) (loaded-is ∙ ap with_load v-is)
-    ∙ ap (λ (t : Table). with_version t p a (with_load (t p a))) same)
-
-pub store-version : (table : Table) (p a w : ℕ) (v stored : Version) (later : Table) → v ≡ table p a → stored ≡ with_store w v → later ≡ with_version table p a stored
-    → later ≡ with_version table p a (with_store w (table p a))
-store-version table p a w v stored later v-is stored_is later-is = later-is ∙ ap (with_version table p a) (stored_is ∙ ap (with_store w) v-is)
-
 -- a read of the memory inside its size gives the word
 pub read-inside : (ws : List ℕ) (a w : ℕ) → a < length ws → Ok w ≡ read_answer ws a → w ≡ get_or ws a 0
 read-inside ws a w h e =

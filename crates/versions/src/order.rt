@@ -59,13 +59,14 @@ impl Order {
         ensures value { result ≡ place_in self.now p }
         ensures apart { Apart self.now }
     {
-        let mut place = None;
+        // 4 for none: kept as an option it would be a chain of tests.
+        let mut place = 4;
         for (k, q) in self.processors().iter().enumerate() {
             if q.number() == p {
-                place = Some(k);
+                place = k;
             }
         }
-        place
+        if place < 4 { Some(place) } else { None }
     }
 
     // The processor at a place. What k may be is a clause here and below: it depends on how many tasks there are, which no type of

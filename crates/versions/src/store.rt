@@ -95,8 +95,8 @@ pub trait VersionStore: Sized {
         ensures beside { Self.Below.Memory.spare result ≡ spare self }
         ensures kept { Self.Below.Memory.sound result };
 
-    // Plays one turn.
-    #[inline]
+    // Plays one turn. (Always inline: by itself the compiler calls it, which costs a fifth of a turn.)
+    #[inline(always)]
     fn take_turn(&mut self, turn: Turn) -> Answer
         requires { sound self.old }
         ensures { Took plain shows spare sound self.old turn result self.new }

@@ -1,13 +1,11 @@
-use Rattle.std.proofs.Common.{◌≡◌, ◌+◌, ◌*◌, ◌≤◌, length, drop}
+use Rattle.std.proofs.Common.{◌≡◌, ◌+◌, ◌*◌, ◌≤◌, cond, drop}
 use Rattle.snooping.specs.Caches.{processors_of, table_of}
 use Rattle.snooping.specs.Report.{reached, powers}
 use Rattle.snooping.proofs.caches.Caches.invalidated.Given as goal
 
--- the tasks so far are reached and counted
+-- the tasks so far are reached and counted, as far as none of them has an own word; past that one nobody is reached
 abbrev pub invariant-loop-p : goal.invariant-loop-p
 invariant-loop-p l = record {
-  can : (goal.iterator-loop-p).can_next l.p-iterator;
-  finite : (goal.iterator-loop-p).is_finite l.p-iterator;
-  mask : powers (reached (λ q. table_of l.self q l.a) (drop l.k (processors_of l.self))) ≡ l.mask + powers (reached (λ q. table_of l.self q l.a) (drop (length l.yielded) (drop l.k (processors_of l.self))));
-  bound : l.mask ≤ 8 * length l.yielded;
+  mask : powers (reached (λ q. table_of l.self q l.a) (drop l.k (processors_of l.self))) ≡ l.mask + cond l.onward (powers (reached (λ q. table_of l.self q l.a) (drop l.p-index (drop l.k (processors_of l.self))))) 0;
+  bound : l.mask ≤ 8 * l.p-index;
 }

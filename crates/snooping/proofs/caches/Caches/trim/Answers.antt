@@ -1,10 +1,10 @@
-use Rattle.std.proofs.Common.{◌<◌, set, is_some, sym, refl, ap, ◌∙◌, subst, arith}
+use Rattle.std.proofs.Common.{◌<◌, set, sym, refl, ap, ◌∙◌, subst, arith}
 use Rattle.snooping.specs.declared.state.LineEvent.TheVariants.{Squash}
 use Rattle.snooping.specs.Caches.{lines_in, processors_of}
 use Rattle.snooping.specs.Grid.{line_in, Tagged, Wide}
 use Rattle.snooping.specs.Lines.{unlinked, ended}
 use Rattle.snooping.proofs.Grids.{cache-mapped, wide-mapped, cut-active, cut-idle, cut-all-caches, tagged-cut}
-use Rattle.snooping.proofs.caches.Caches.trim.Goals.{in-Some, in-None}
+use Rattle.snooping.proofs.caches.Caches.trim.Goals.{then-running-p, else-running-p}
 use Rattle.snooping.proofs.caches.Caches.trim.Goals as goal
 
 pub loop-p-preserved : goal.loop-p-preserved
@@ -15,18 +15,18 @@ loop-p-preserved c =
     let p = c.loop-p.p in
     let i = c.loop-p.invariant in
     let low : p < 4 = omega (arith, i.wide.caches) in
-    elim c.match-place.branch [
-      | in-Some w ↦
+    elim c.if-running-p.branch [
+      | then-running-p w ↦
           let x = w.unlink.new.self in record {
             wide = subst Wide (sym w.cache-items-is) (wide-mapped items p x i.wide low (unlinked ps) w.unlink.ensures);
             lines = ap line_in w.cache-items-is
-                ∙ cut-active ps (lines_in s) (line_in items) p i.lines (line_in (set items p x)) (sym (ap is_some w.in-Some.ensures.value)) (cache-mapped items p x i.wide low (unlinked ps) refl w.unlink.ensures);
+                ∙ cut-active ps (lines_in s) (line_in items) p i.lines (line_in (set items p x)) (sym (c.running-running.ensures p) ∙ w.if-running-p.true) (cache-mapped items p x i.wide low (unlinked ps) refl w.unlink.ensures);
           }
-      | in-None w ↦
+      | else-running-p w ↦
           let x = w.end_all.new.self in record {
             wide = subst Wide (sym w.cache-items-is) (wide-mapped items p x i.wide low (ended Squash) w.end_all.ensures);
             lines = ap line_in w.cache-items-is
-                ∙ cut-idle ps (lines_in s) (line_in items) p i.lines (line_in (set items p x)) (sym (ap is_some w.in-None.ensures.value)) (cache-mapped items p x i.wide low (ended Squash) refl w.end_all.ensures);
+                ∙ cut-idle ps (lines_in s) (line_in items) p i.lines (line_in (set items p x)) (sym (c.running-running.ensures p) ∙ w.if-running-p.false) (cache-mapped items p x i.wide low (ended Squash) refl w.end_all.ensures);
           }
     ]
 

@@ -39,12 +39,19 @@ returns-then-takes_store g c =
     (at.1 ∙ ap (λ (n : ℕ). access_place n (processors_of s.caches) (table_of s.caches) c.in_ok-p.p c.args.a) c.size.ensures)
     parts.0 parts.1 c.take.ensures.order c.take.ensures.lines c.take.new.self.wide c.quiet-self.ensures) c.requires.memory refl
 
-pub overflow_add-k : goal.overflow_add-k
-overflow_add-k g c =
+pub overflow_add-later : goal.overflow_add-later
+overflow_add-later g c =
     let s = c.args.self.now in
     let ps = processors_of s.caches in
     let at = at-processor c.args.p c.in_ok-p.p c.in_ok-p.k (λ (p : ℕ). access_place c.size.result ps (table_of s.caches) p c.args.a) c.in_ok-p.ensures in
     omega (arith, (placed ps c.in_ok-p.p c.in_ok-p.k (ok-access c.size.result ps (table_of s.caches) c.in_ok-p.p c.args.a c.in_ok-p.k at.1).0).within, few ps c.requires.apart)
+
+pub invalidated-mask-requires : goal.invalidated-mask-requires
+invalidated-mask-requires g c =
+    let s = c.args.self.now in
+    let ps = processors_of s.caches in
+    let at = at-processor c.args.p c.in_ok-p.p c.in_ok-p.k (λ (p : ℕ). access_place c.size.result ps (table_of s.caches) p c.args.a) c.in_ok-p.ensures in
+    omega (arith, (placed ps c.in_ok-p.p c.in_ok-p.k (ok-access c.size.result ps (table_of s.caches) c.in_ok-p.p c.args.a c.in_ok-p.k at.1).0).within)
 
 pub cut_last-requires : goal.cut_last-requires
 cut_last-requires g c =
