@@ -60,6 +60,8 @@ These were tried too. The prover passes them, since no contract can say more, an
 | `read_start` takes half as many bytes of a file as are asked for | what a file holds no contract can say; it promises that there are no more | `tools/program_cases.py` has files of more than 32,768 bytes |
 | `read_start` gives an error where there is no file | whether a file is there no contract can say | the test `a_missing_file_is_empty` of `files` |
 | `read_start` takes every error for a missing file | the same | nothing |
+| `listing_of_files` reads the image from `turns.txt` | it promises the listing of some image and some text | the programs `play` and `central`, whose output the gate compares |
+| `listing_of_files` plays the first half of its text | the same | `play` and `central` |
 """
 
 
