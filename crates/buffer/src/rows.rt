@@ -113,7 +113,8 @@ impl Set {
         }
     }
 
-    // Makes v p's version of a.
+    // Makes v p's version of a. That the set is in order and that p holds no row of another address are clauses, here and in the two calls
+    // below: they relate p and a to the rows, which no type of either could say more plainly.
     fn put(&mut self, p: Processor, a: u32, v: Version)
         requires good_set { GoodSet (a % 16) self.old }
         requires mine { (i : ℕ) → i < 4 → is_held (in_row (slice_index_or self.old i no_row) p) ≡ true → (get_or self.old i no_row).address ≡ a }

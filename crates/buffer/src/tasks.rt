@@ -46,7 +46,7 @@ impl Tasks {
         self.order.append(p);
     }
 
-    // Makes v p's version of a. p holds no other address of a's class.
+    // Makes v p's version of a. p holds no other address of a's class: a clause, here and below, since it relates p and a to the rows.
     pub fn put(&mut self, p: Processor, a: u32, v: Version)
         requires { HoldsNoOther (table_of self.old p) a }
         ensures order { self.new.order ≡ self.old.order }
