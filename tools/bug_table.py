@@ -59,7 +59,7 @@ These were tried too. The prover passes them, since no contract can say more, an
 | `model_play_central` gives 0 and writes nothing where the text is empty | a listing may be left out where writing a text fails, and no contract says when it does | `tools/compare.sh` plays empty texts, and compares the listing with the independent implementation's |
 | `read_start` takes half as many bytes of a file as are asked for | what a file holds no contract can say; it promises that there are no more | `tools/program_cases.py` has files of more than 32,768 bytes |
 | `read_start` gives an error where there is no file | whether a file is there no contract can say | the test `a_missing_file_is_empty` of `files` |
-| `read_start` takes every error for a missing file | the same | nothing |
+| `read_start` takes every error for a missing file | the same | the test `another_error_is_no_missing_file` of `files` |
 | `listing_of_files` reads the image from `turns.txt` | it promises the listing of some image and some text | the programs `play` and `central`, whose output the gate compares |
 | `listing_of_files` plays the first half of its text | the same | `play` and `central` |
 """

@@ -1,4 +1,4 @@
-// What no contract says of a file, and two runs over sources whose bytes are known.
+// What no contract says of files and folders, and two runs over sources whose bytes are known.
 use crate::{fill, read_start, take_most};
 use std::test::Fail;
 
@@ -28,5 +28,17 @@ fn no_more_bytes_are_taken_than_asked_for(rt: HostRuntime) -> Result<(), Fail> {
     let taken = take_most(rt.alloc(), &mut source, 32768)?;
     assert_eq!(rt; taken.len(), 32768);
     assert_eq!(rt; source, [7].as_slice());
+    Ok(())
+}
+
+// A folder can be opened but not read, and a name of 300 bytes can't be opened: neither is taken for a missing file.
+#[test]
+fn another_error_is_no_missing_file(rt: HostRuntime) -> Result<(), Fail> {
+    assert!(rt; read_start(&rt, ".", 4).is_err());
+    let mut name = String::new(rt.alloc());
+    for _ in 0..300 {
+        name.push('a')?;
+    }
+    assert!(rt; read_start(&rt, name.as_str(), 4).is_err());
     Ok(())
 }
