@@ -2,6 +2,7 @@ pub mod Turns
 pub mod Refusals
 pub mod Cuts
 pub mod Processors
+pub mod ClassSets
 pub mod Orders
 pub mod Versions
 pub mod Plain

@@ -2,6 +2,7 @@
 // (specs/Sequential.antt, on the contracts in `play`), and what stores that keep a table of versions share.
 #![tactic(auto)]
 
+mod class_set;
 mod order;
 mod play;
 mod processor;
@@ -12,6 +13,7 @@ mod turn;
 mod version;
 mod written;
 
+pub use class_set::ClassSet;
 pub use order::Order;
 pub use play::{AnswersFull, play_turn, play_turns, refusals_rise, worked_runs_hold};
 pub use processor::{Class, Processor};
