@@ -1,6 +1,7 @@
 // The rows of the program's three memories, and the memories over them.
 ghost use Rattle.std.specs.Prelude.{◌≡◌, ◌/◌, ◌&&◌, length, is_ok, IfErr, IfOk};
 ghost use Rattle.memory.specs.Words.{open_answer, MemorySize};
+ghost use Rattle.memory.specs.Rows.{words_in, bytes_in};
 ghost use Rattle.memory.specs.declared.error.MemoryError.TheVariants.{Size};
 
 use memory::{ByteMemory, MemoryError, WordMemory};
@@ -23,10 +24,10 @@ impl Rows {
     pub fn open(&mut self) -> Result<Memories<'_>, MemoryError>
         ensures outcome { is_ok result ≡ (is_ok (open_answer (length self.old.dump.items / 4)) && (is_ok (open_answer (length self.old.words.items)) && is_ok (open_answer (length self.old.bytes.items / 4)))) }
         ensures err { IfErr result (λ e. e ≡ Size) }
-        ensures dump { IfOk result (λ memories. memories.dump.row.now ≡ self.old.dump.items) }
-        ensures words { IfOk result (λ memories. memories.words.row.now ≡ self.old.words.items) }
-        ensures bytes { IfOk result (λ memories. memories.bytes.row.now ≡ self.old.bytes.items) }
-        ensures kept { IfOk result (λ memories. MemorySize (length memories.words.row.now)) }
+        ensures dump { IfOk result (λ memories. bytes_in memories.dump ≡ self.old.dump.items) }
+        ensures words { IfOk result (λ memories. words_in memories.words ≡ self.old.words.items) }
+        ensures bytes { IfOk result (λ memories. bytes_in memories.bytes ≡ self.old.bytes.items) }
+        ensures kept { IfOk result (λ memories. MemorySize (length (words_in memories.words))) }
     {
         ByteMemory::check(self.dump.as_slice())?;
         WordMemory::check(self.words.as_slice())?;

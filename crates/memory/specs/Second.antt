@@ -79,12 +79,16 @@ pub record Tied (c : Cached) : Type 0 where
   pub count : length c.lines ≡ 64
   pub each : (i : ℕ) → i < 64 → MayHold c.below i (slice_index_or c.lines i Empty)
 
+-- the memory below a cache, as contracts name it: the field is private
+abbrev pub memory_below : {M : Type 0} → SecondLevel M → M
+memory_below s = s.below
+
 -- a cache over a memory, by that memory's words; its condition, by that memory's condition too
 abbrev pub cached_of : {M : Type 0} → (M → List ℕ) → SecondLevel M → Cached
-cached_of words s = lines_over s.lines (words s.below)
+cached_of words s = lines_over s.lines (words (memory_below s))
 
 abbrev pub SoundCache : {M : Type 0} → (M → List ℕ) → (M → Type 0) → SecondLevel M → Type 0
-SoundCache words sound s = sound s.below × Tied (cached_of words s)
+SoundCache words sound s = sound (memory_below s) × Tied (cached_of words s)
 
 -- a cache has as many words as the memory below
 pub counted-sized : (c : Cached) → MemorySize (length c.below) → MemorySize (length (counted c))

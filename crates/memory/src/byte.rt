@@ -16,6 +16,8 @@ pub struct ByteMemory<'a> {
 }
 
 impl<'a> ByteMemory<'a> {
+    ghost use Rattle.memory.specs.Rows.{bytes_in};
+
     // Whether the row can be opened. It moves nothing.
     pub fn check(row: &[u8]) -> Result<(), MemoryError>
         ensures { result ≡ open_answer (length row.now / 4) }
@@ -26,15 +28,15 @@ impl<'a> ByteMemory<'a> {
     // The memory over a row that passed the check.
     pub fn open(row: &'a mut [u8]) -> ByteMemory<'a>
         requires { open_answer (length row.old / 4) ≡ Ok tt }
-        ensures row { result.row.now ≡ row.old }
-        ensures kept { MemorySize (length result.row.now / 4) }
+        ensures row { bytes_in result ≡ row.old }
+        ensures kept { MemorySize (length (bytes_in result) / 4) }
     {
         ByteMemory { row }
     }
 
     // Ends the memory and gives its row back, which holds the words and the bytes left over.
     pub fn close(self) -> &'a mut [u8]
-        ensures { result.now ≡ self.entry.row.now }
+        ensures { result.now ≡ bytes_in self.entry }
     {
         let ByteMemory { row } = self;
         row
@@ -42,7 +44,7 @@ impl<'a> ByteMemory<'a> {
 
     // Word a of the row, if it has one.
     fn word(&self, a: u32) -> Option<u32>
-        ensures { result ≡ slice_get (words_of self.now.row.now) a }
+        ensures { result ≡ slice_get (words_of (bytes_in self.now)) a }
     {
         let (words, _) = self.row.as_chunks::<4>();
         let bytes = words.get(a as usize)?;
@@ -51,11 +53,13 @@ impl<'a> ByteMemory<'a> {
 }
 
 impl Memory for ByteMemory<'_> {
-    ghost words = { λ m. words_of m.row.now };
+    ghost use Rattle.memory.specs.Rows.{bytes_in};
 
-    ghost sound = { λ m. MemorySize (length m.row.now / 4) };
+    ghost words = { λ m. words_of (bytes_in m) };
 
-    ghost spare = { λ m. spare_bytes m.row.now };
+    ghost sound = { λ m. MemorySize (length (bytes_in m) / 4) };
+
+    ghost spare = { λ m. spare_bytes (bytes_in m) };
 
     #[tactic(auto, using(crate::proofs::Packing::sizes))]
     fn size(&self) -> u32 {
@@ -64,8 +68,8 @@ impl Memory for ByteMemory<'_> {
 
     // Word a, or a refusal where there is none. The row stays as it is.
     fn read(&mut self, a: u32) -> Result<u32, MemoryError>
-        ensures answer { result ≡ read_answer (words_of self.old.row.now) a }
-        ensures row { self.new.row.now ≡ self.old.row.now }
+        ensures answer { result ≡ read_answer (words_of (bytes_in self.old)) a }
+        ensures row { bytes_in self.new ≡ bytes_in self.old }
         ensures refused { is_ok result ≡ false → self.new ≡ self.old }
     {
         self.word(a).ok_or(MemoryError::Address)
@@ -74,11 +78,11 @@ impl Memory for ByteMemory<'_> {
     // Puts w into bytes 4a to 4a+3 and touches no other byte, or refuses and touches none.
     #[tactic(auto, using(crate::proofs::Packing::sizes))]
     fn write(&mut self, a: u32, w: u32) -> Result<(), MemoryError>
-        ensures answer { result ≡ write_answer (words_of self.old.row.now) a }
-        ensures row { self.new.row.now ≡ written_bytes self.old.row.now a w }
+        ensures answer { result ≡ write_answer (words_of (bytes_in self.old)) a }
+        ensures row { bytes_in self.new ≡ written_bytes (bytes_in self.old) a w }
         ensures refused { is_ok result ≡ false → self.new ≡ self.old }
-        ensures words { words_of self.new.row.now ≡ written_words (words_of self.old.row.now) a w }
-        ensures beside { spare_bytes self.new.row.now ≡ spare_bytes self.old.row.now }
+        ensures words { words_of (bytes_in self.new) ≡ written_words (words_of (bytes_in self.old)) a w }
+        ensures beside { spare_bytes (bytes_in self.new) ≡ spare_bytes (bytes_in self.old) }
     {
         if a >= self.size() {
             return Err(MemoryError::Address);
@@ -89,5 +93,5 @@ impl Memory for ByteMemory<'_> {
         Ok(())
     }
 
-    ghost sized = { λ m h. words_of-sized m.row.now h };
+    ghost sized = { λ m h. words_of-sized (bytes_in m) h };
 }

@@ -3,7 +3,7 @@
 // apart.
 ghost use Rattle.std.specs.Prelude.{◌≡◌, ℕ, ◌%◌, ◌<◌, false, List, length, is_some, is_ok, IfSome, Ok, OnSome};
 ghost use Rattle.memory.specs.Words.{read_answer, write_answer, written_words};
-ghost use Rattle.memory.specs.Second.{word_in, hit, counted, empty_over, given_up, freed, with_line, after_read, after_write, cached_of, SoundCache, counted-sized};
+ghost use Rattle.memory.specs.Second.{word_in, hit, counted, empty_over, given_up, freed, with_line, after_read, after_write, memory_below, cached_of, SoundCache, counted-sized};
 
 use crate::error::MemoryError;
 use crate::interface::Memory;
@@ -53,7 +53,7 @@ impl<M: Memory> SecondLevel<M> {
         requires { M.Memory.sound below }
         ensures cached { cached_of M.Memory.words result ≡ empty_over (M.Memory.words below) }
         ensures words { counted (cached_of M.Memory.words result) ≡ M.Memory.words below }
-        ensures below { result.below ≡ below }
+        ensures below { memory_below result ≡ below }
         ensures kept { SoundCache M.Memory.words M.Memory.sound result }
     {
         SecondLevel {
@@ -66,7 +66,7 @@ impl<M: Memory> SecondLevel<M> {
     pub fn close(mut self) -> M
         requires { SoundCache M.Memory.words M.Memory.sound self }
         ensures words { M.Memory.words result ≡ counted (cached_of M.Memory.words self) }
-        ensures beside { M.Memory.spare result ≡ M.Memory.spare self.below }
+        ensures beside { M.Memory.spare result ≡ M.Memory.spare (memory_below self) }
         ensures kept { M.Memory.sound result }
     {
         self.give_up_all();
@@ -78,9 +78,9 @@ impl<M: Memory> SecondLevel<M> {
     // which addresses a line may hold depends on its number.
     fn give_up_all(&mut self)
         requires { SoundCache M.Memory.words M.Memory.sound self.old }
-        ensures words { M.Memory.words self.new.below ≡ counted (cached_of M.Memory.words self.old) }
-        ensures beside { M.Memory.spare self.new.below ≡ M.Memory.spare self.old.below }
-        ensures kept { M.Memory.sound self.new.below }
+        ensures words { M.Memory.words (memory_below self.new) ≡ counted (cached_of M.Memory.words self.old) }
+        ensures beside { M.Memory.spare (memory_below self.new) ≡ M.Memory.spare (memory_below self.old) }
+        ensures kept { M.Memory.sound (memory_below self.new) }
     {
         for i in 0..LINES {
             self.give_up(i);
@@ -92,8 +92,8 @@ impl<M: Memory> SecondLevel<M> {
         requires sound { SoundCache M.Memory.words M.Memory.sound self.old }
         requires line_number { i < 64 }
         ensures cached { cached_of M.Memory.words self.new ≡ given_up (cached_of M.Memory.words self.old) i }
-        ensures beside { M.Memory.spare self.new.below ≡ M.Memory.spare self.old.below }
-        ensures kept { M.Memory.sound self.new.below }
+        ensures beside { M.Memory.spare (memory_below self.new) ≡ M.Memory.spare (memory_below self.old) }
+        ensures kept { M.Memory.sound (memory_below self.new) }
     {
         if let Line::Changed { tag, word } = self.lines[i] {
             // Never refused: the tag is an address of the memory below.
@@ -117,8 +117,8 @@ impl<M: Memory> SecondLevel<M> {
     fn free(&mut self, a: u32)
         requires { SoundCache M.Memory.words M.Memory.sound self.old }
         ensures cached { cached_of M.Memory.words self.new ≡ freed (cached_of M.Memory.words self.old) a }
-        ensures beside { M.Memory.spare self.new.below ≡ M.Memory.spare self.old.below }
-        ensures kept { M.Memory.sound self.new.below }
+        ensures beside { M.Memory.spare (memory_below self.new) ≡ M.Memory.spare (memory_below self.old) }
+        ensures kept { M.Memory.sound (memory_below self.new) }
     {
         let i = line_number(a);
         if self.lines[i].word_of(a).is_none() {
@@ -130,8 +130,8 @@ impl<M: Memory> SecondLevel<M> {
     fn set_line(&mut self, a: u32, line: Line)
         requires { SoundCache M.Memory.words M.Memory.sound self.old }
         ensures cached { cached_of M.Memory.words self.new ≡ with_line (cached_of M.Memory.words self.old) a line }
-        ensures beside { M.Memory.spare self.new.below ≡ M.Memory.spare self.old.below }
-        ensures kept { M.Memory.sound self.new.below }
+        ensures beside { M.Memory.spare (memory_below self.new) ≡ M.Memory.spare (memory_below self.old) }
+        ensures kept { M.Memory.sound (memory_below self.new) }
     {
         self.free(a);
         self.lines[line_number(a)] = line;
@@ -145,7 +145,7 @@ impl<M: Memory> SecondLevel<M> {
         ensures answer { result ≡ read_answer (counted (cached_of M.Memory.words self.old)) a }
         ensures after { counted (cached_of M.Memory.words self.new) ≡ counted (cached_of M.Memory.words self.old) }
         ensures refused { is_ok result ≡ false → self.new ≡ self.old }
-        ensures beside { M.Memory.spare self.new.below ≡ M.Memory.spare self.old.below }
+        ensures beside { M.Memory.spare (memory_below self.new) ≡ M.Memory.spare (memory_below self.old) }
         ensures kept { SoundCache M.Memory.words M.Memory.sound self.new }
         ensures cached { cached_of M.Memory.words self.new ≡ after_read (cached_of M.Memory.words self.old) a }
     {
@@ -160,7 +160,7 @@ impl<M: Memory> Memory for SecondLevel<M> {
 
     ghost sound = { SoundCache M.Memory.words M.Memory.sound };
 
-    ghost spare = { λ s. M.Memory.spare s.below };
+    ghost spare = { λ s. M.Memory.spare (memory_below s) };
 
     // The memory below has as many.
     #[tactic(auto, using(crate::proofs::Caching::sizes))]
@@ -174,7 +174,7 @@ impl<M: Memory> Memory for SecondLevel<M> {
         ensures answer { result ≡ read_answer (counted (cached_of M.Memory.words self.old)) a }
         ensures after { counted (cached_of M.Memory.words self.new) ≡ counted (cached_of M.Memory.words self.old) }
         ensures refused { is_ok result ≡ false → self.new ≡ self.old }
-        ensures beside { M.Memory.spare self.new.below ≡ M.Memory.spare self.old.below }
+        ensures beside { M.Memory.spare (memory_below self.new) ≡ M.Memory.spare (memory_below self.old) }
         ensures kept { SoundCache M.Memory.words M.Memory.sound self.new }
         ensures cached { cached_of M.Memory.words self.new ≡ after_read (cached_of M.Memory.words self.old) a }
     {
@@ -191,7 +191,7 @@ impl<M: Memory> Memory for SecondLevel<M> {
         ensures answer { result ≡ write_answer (counted (cached_of M.Memory.words self.old)) a }
         ensures after { counted (cached_of M.Memory.words self.new) ≡ written_words (counted (cached_of M.Memory.words self.old)) a w }
         ensures refused { is_ok result ≡ false → self.new ≡ self.old }
-        ensures beside { M.Memory.spare self.new.below ≡ M.Memory.spare self.old.below }
+        ensures beside { M.Memory.spare (memory_below self.new) ≡ M.Memory.spare (memory_below self.old) }
         ensures kept { SoundCache M.Memory.words M.Memory.sound self.new }
         ensures cached { cached_of M.Memory.words self.new ≡ after_write (cached_of M.Memory.words self.old) a w }
     {
@@ -202,5 +202,5 @@ impl<M: Memory> Memory for SecondLevel<M> {
         Ok(())
     }
 
-    ghost sized = { λ s h. counted-sized (cached_of M.Memory.words s) (M.Memory.sized s.below h.0) };
+    ghost sized = { λ s h. counted-sized (cached_of M.Memory.words s) (M.Memory.sized (memory_below s) h.0) };
 }

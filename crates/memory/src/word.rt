@@ -1,6 +1,7 @@
 // Word memory: the words lie in a row of `u32` that the caller lends.
 ghost use Rattle.std.specs.Prelude.{◌≡◌, ℕ, List, [], length, Ok, slice_get};
 ghost use Rattle.memory.specs.Words.{read_answer, write_answer, written_words, open_answer, MemorySize};
+ghost use Rattle.memory.specs.Rows.{words_in};
 
 use crate::error::MemoryError;
 use crate::interface::{Memory, check_size};
@@ -25,15 +26,15 @@ impl<'a> WordMemory<'a> {
     // The memory over a row that passed the check.
     pub fn open(row: &'a mut [u32]) -> WordMemory<'a>
         requires { open_answer (length row.old) ≡ Ok tt }
-        ensures words { result.row.now ≡ row.old }
-        ensures kept { MemorySize (length result.row.now) }
+        ensures words { words_in result ≡ row.old }
+        ensures kept { MemorySize (length (words_in result)) }
     {
         WordMemory { row }
     }
 
     // Ends the memory and gives its row back, which holds the words.
     pub fn close(self) -> &'a mut [u32]
-        ensures { result.now ≡ self.entry.row.now }
+        ensures { result.now ≡ words_in self.entry }
     {
         let WordMemory { row } = self;
         row
@@ -41,16 +42,16 @@ impl<'a> WordMemory<'a> {
 
     // Word a of the row, if it has one.
     fn word(&self, a: u32) -> Option<u32>
-        ensures { result ≡ slice_get self.now.row.now a }
+        ensures { result ≡ slice_get (words_in self.now) a }
     {
         self.row.get(a as usize).copied()
     }
 }
 
 impl Memory for WordMemory<'_> {
-    ghost words = { λ m. m.row.now };
+    ghost words = { words_in };
 
-    ghost sound = { λ m. MemorySize (length m.row.now) };
+    ghost sound = { λ m. MemorySize (length (words_in m)) };
 
     ghost spare = { λ _. [] };
 

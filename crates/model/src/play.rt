@@ -1,6 +1,7 @@
 // Playing an image and a text of turns as the programs do, with the listing in the caller's buffer.
 ghost use Rattle.std.specs.Prelude.{◌≡◌, length, take, replicate};
 ghost use Rattle.memory.specs.Words.{MemorySize};
+ghost use Rattle.memory.specs.Rows.{words_in};
 ghost use Rattle.player.specs.Capacity.{most_bytes};
 ghost use Rattle.player.specs.Listings.{listing_of, listing_played};
 ghost use Rattle.model.specs.Listed.{ListedIn};
@@ -32,8 +33,8 @@ fn play<'a, 'b, S: VersionStore<Below = WordMemory<'a>>>(
     text: &'b [u8],
     listing: &mut [u8],
 ) -> usize
-    requires words { (memory : _) → ⟦<S::Below as Memory>⟧.words memory ≡ memory.row.now }
-    requires sound { (memory : _) → MemorySize (length memory.row.now) → ⟦<S::Below as Memory>⟧.sound memory }
+    requires words { (memory : _) → ⟦<S::Below as Memory>⟧.words memory ≡ words_in memory }
+    requires sound { (memory : _) → MemorySize (length (words_in memory)) → ⟦<S::Below as Memory>⟧.sound memory }
     ensures { ListedIn (listing_played row.old (take most_bytes image.now) (take most_bytes text.now)) listing.old result listing.new }
 {
     let mut turns = [Turn::Start { p: 0 }; MOST_TURNS];

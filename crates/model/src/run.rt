@@ -1,6 +1,7 @@
 // Lists of commands, each list a whole run: a store is opened over the words, carries the commands out, and is closed.
 ghost use Rattle.std.specs.Prelude.{◌≡◌, ◌≤◌, ◌++◌, length, drop, Some, None, OnOk, OnErr};
 ghost use Rattle.memory.specs.Words.{MemorySize};
+ghost use Rattle.memory.specs.Rows.{words_in};
 ghost use Rattle.versions.specs.Plain.{memory_words};
 ghost use Rattle.snooping.specs.Report.{quiet};
 ghost use Rattle.model.specs.Machines.{seen_of, replies_to, seen_after_all, seen_at, replies_after, words_after};
@@ -60,8 +61,8 @@ fn run<'a, S: Machine<Below = WordMemory<'a>>>(
     commands: &[Command],
     replies: &mut [Reply],
 ) -> Result<(), RunRefusal>
-    requires words { (memory : _) → ⟦<S::Below as Memory>⟧.words memory ≡ memory.row.now }
-    requires sound { (memory : _) → MemorySize (length memory.row.now) → ⟦<S::Below as Memory>⟧.sound memory }
+    requires words { (memory : _) → ⟦<S::Below as Memory>⟧.words memory ≡ words_in memory }
+    requires sound { (memory : _) → MemorySize (length (words_in memory)) → ⟦<S::Below as Memory>⟧.sound memory }
     ensures outcome { result ≡ run_outcome (length words.old) (length commands.now) (length replies.old) }
     ensures replies { OnOk result (replies.new ≡ replies_to (seen_at S.Machine.first_report words.old) commands.now ++ drop (length commands.now) replies.old) }
     ensures words { OnOk result (words.new ≡ memory_words (seen_after_all (seen_at S.Machine.first_report words.old) commands.now).plain) }
