@@ -1,5 +1,5 @@
 -- A set of classes of addresses, a bit for each.
-use Rattle.std.specs.Prelude.{◌≡◌, ℕ, ◌<◌, Bool, true, false, cond, not, ◌&&◌, ◌||◌, ◌==◌}
+use Rattle.std.specs.Prelude.{◌≡◌, ℕ, ◌<◌, Bool, true, false, ◌==◌}
 use Rattle.std.specs.Int.{bit_at}
 use Rattle.versions.specs.declared.class_set.ClassSet.{ClassSet}
 

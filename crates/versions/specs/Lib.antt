@@ -7,6 +7,7 @@ pub mod Orders
 pub mod Versions
 pub mod Plain
 pub mod Tables
+pub mod Sharers
 pub mod Taken
 pub mod Book
 pub mod Sequential

@@ -1,23 +1,40 @@
 -- What the active tasks have at one address: a bit for each, by its place in the order.
-use Rattle.std.specs.Prelude.{◌≡◌, ℕ, ◌≤◌, Bool, List, map, length, get_or, ◌==◌}
+use Rattle.std.specs.Prelude.{◌≡◌, ℕ, ◌<◌, ◌≤◌, Bool, true, false, List, map, length, get_or, Some, None, Option, ◌==◌}
 use Rattle.std.specs.Int.{bit_at}
 use Rattle.versions.specs.declared.sharers.Sharers.{Sharers}
-use Rattle.versions.specs.Tables.{Table}
-use Rattle.versions.specs.Versions.{no_version, is_own}
 use Rattle.versions.specs.declared.version.Version.{Version}
+use Rattle.versions.specs.Tables.{Table}
+use Rattle.versions.specs.Versions.{no_version, is_own, is_held}
 
--- the versions of a, of some processors
+-- whether bit i of n is 1
+abbrev pub bit_set : ℕ → ℕ → Bool
+bit_set n i = bit_at n i == 1
+
+-- the last place below k that passes a test, and the first from k on
+abbrev pub LastBelow : (ℕ → Bool) → ℕ → Option ℕ → Type 0
+LastBelow f k None = (i : ℕ) → i < k → f i ≡ false
+LastBelow f k (Some j) = (j < k) × (f j ≡ true) × ((i : ℕ) → j < i → i < k → f i ≡ false)
+
+abbrev pub FirstFrom : (ℕ → Bool) → ℕ → Option ℕ → Type 0
+FirstFrom f k None = (i : ℕ) → k ≤ i → f i ≡ false
+FirstFrom f k (Some j) = (k ≤ j) × (f j ≡ true) × ((i : ℕ) → k ≤ i → i < j → f i ≡ false)
+
+-- the version at place i of some; no version past their end. Whether it has an own word; whether it is held at all
+abbrev pub owns_at : List Version → ℕ → Bool
+owns_at vs i = is_own (get_or vs i no_version)
+
+abbrev pub holds_at : List Version → ℕ → Bool
+holds_at vs i = is_held (get_or vs i no_version)
+
+-- the sharers are those of at most four versions
+pub record SharersOf (vs : List Version) (s : Sharers) : Type 0 where
+  pub few : length vs ≤ 4
+  pub marks : (i : ℕ) → bit_set s.marks i ≡ (get_or vs i no_version).mark
+  pub owns : (i : ℕ) → bit_set s.owns i ≡ owns_at vs i
+
+-- the versions of a that some processors have, and the sharers of their address among the tasks on these processors
 abbrev pub versions_of : Table → ℕ → List ℕ → List Version
 versions_of table a ps = map (λ q. table q a) ps
 
--- the sharers of at most 32 versions: bit i of the marks says that version i is marked, bit i of the owns that it has an own word
-pub record SharersOf (vs : List Version) (s : Sharers) : Type 0 where
-  pub few : length vs ≤ 32
-  pub marks : (i : ℕ) → (bit_at s.marks i == 1) ≡ (get_or vs i no_version).mark
-  pub owns : (i : ℕ) → (bit_at s.owns i == 1) ≡ is_own (get_or vs i no_version)
-
--- the sharers of their address, of the tasks on some processors
 abbrev pub SharersIn : List ℕ → Table → Sharers → Type 0
 SharersIn ps table s = SharersOf (versions_of table s.address ps) s
-
--- the place of the last of some versions with an own word, from i on; of the first that is held

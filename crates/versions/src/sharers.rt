@@ -1,16 +1,103 @@
-// Which of the active tasks have a mark, and which an own word, at one address. All is found of these bits without a loop: where a search
-// of the tasks would end can't be foreseen, which costs more than to ask them all.
-ghost use Rattle.std.specs.Prelude.{◌≡◌, ℕ, ◌-◌, ◌<◌, ◌≤◌, ◌∷◌, [], ◌++◌, List, length, take, drop, Some, IfSome, IfNone};
+// Which of the active tasks have a mark at one address, and which an own word. All is found of these bits without a loop: where a search of
+// the tasks would end can't be foreseen, and a wrong guess costs more than to ask all four.
+ghost use Rattle.std.specs.Prelude.{◌≡◌, ℕ, ◌<◌, ◌≤◌, [], ◌∷◌, ◌++◌, List, length, drop};
 ghost use Rattle.versions.specs.declared.version.Version.{Version};
-ghost use Rattle.versions.specs.Sharers.{SharersOf};
+ghost use Rattle.versions.specs.Sharers.{SharersOf, bit_set, LastBelow, FirstFrom, owns_at, holds_at};
 ghost use Rattle.versions.specs.Versions.{squashed_by};
 
 use crate::version::Version;
 
-// Bit i is that of the task at place i.
+// Bit i is that of the task at place i. The address is told with them: they say nothing of another.
 #[derive(Clone, Copy)]
 pub struct Sharers {
-    pub address: u32,
+    address: u32,
     marks: u32,
     owns: u32,
+}
+
+impl Sharers {
+    // Of address a, before any task was asked.
+    pub fn new(a: u32) -> Sharers
+        ensures address { result.address ≡ a }
+        ensures none { SharersOf [] result }
+    {
+        Sharers {
+            address: a,
+            marks: 0,
+            owns: 0,
+        }
+    }
+
+    // Adds the version of the task at place k, the next one. k is bounded by a clause: how many there are, no type says.
+    pub fn add(&mut self, k: usize, v: Version)
+        requires { k < 4 }
+        ensures address { self.new.address ≡ self.old.address }
+        ensures more { (vs : List Version) → SharersOf vs self.old → length vs ≡ k → SharersOf (vs ++ v ∷ []) self.new }
+    {
+        self.marks |= (v.mark as u32) << k;
+        self.owns |= (v.own.is_some() as u32) << k;
+    }
+
+    // The place of the nearest task before place k with an own word. The bits mean what the clause says, here and below, since no type can
+    // name the versions that they are of.
+    pub fn owner_before(self, k: usize) -> Option<usize>
+        requires { k ≤ 4 }
+        ensures { (vs : List Version) → SharersOf vs self → LastBelow (owns_at vs) k result }
+    {
+        last_below(self.owns, k)
+    }
+
+    // The place of the nearest task before place k that holds the address.
+    pub fn holder_before(self, k: usize) -> Option<usize>
+        requires { k ≤ 4 }
+        ensures { (vs : List Version) → SharersOf vs self → LastBelow (holds_at vs) k result }
+    {
+        last_below(self.marks | self.owns, k)
+    }
+
+    // The place of the first task from place k on that holds the address.
+    pub fn holder_from(self, k: usize) -> Option<usize>
+        requires { k ≤ 4 }
+        ensures { (vs : List Version) → SharersOf vs self → FirstFrom (holds_at vs) k result }
+    {
+        first_from(self.marks | self.owns, k)
+    }
+
+    // How many of n tasks, from place k on, a store to the address squashes.
+    pub fn squashed(self, k: usize, n: usize) -> usize
+        requires { k ≤ 4 }
+        ensures { (vs : List Version) → SharersOf vs self → n ≡ length vs → result ≡ squashed_by (drop k vs) }
+    {
+        let Some(marked) = first_from(self.marks, k) else {
+            return 0;
+        };
+        match first_from(self.owns, k) {
+            Some(own) if own < marked => 0,
+            _ => n - marked,
+        }
+    }
+}
+
+// The place of the highest bit below k that is set.
+fn last_below(bits: u32, k: usize) -> Option<usize>
+    requires { k ≤ 4 }
+    ensures { LastBelow (bit_set bits) k result }
+{
+    let earlier = bits & ((1 << k) - 1);
+    if earlier == 0 {
+        return None;
+    }
+    Some(earlier.ilog2() as usize)
+}
+
+// The place of the lowest bit from k on that is set.
+fn first_from(bits: u32, k: usize) -> Option<usize>
+    requires { k ≤ 4 }
+    ensures { FirstFrom (bit_set bits) k result }
+{
+    let later = bits >> k;
+    if later == 0 {
+        return None;
+    }
+    Some(k + later.trailing_zeros() as usize)
 }

@@ -1,10 +1,12 @@
 // The active tasks of a version store: their order, and each one's version at each address. What follows from those two
 // alone is written and proved here, once for every store that keeps them.
-ghost use Rattle.std.specs.Prelude.{◌≡◌, ℕ, ◌<◌, ◌≤◌, List, map, length, take, drop, IfOk};
+ghost use Rattle.std.specs.Prelude.{◌≡◌, ℕ, ◌<◌, ◌≤◌, false, List, map, length, take, drop, None, IfOk};
+ghost use Rattle.versions.specs.ClassSets.{has};
 ghost use Rattle.versions.specs.Plain.{holds_class};
 ghost use Rattle.versions.specs.Tables.{Table, task_by, Fitting, HeldIn, last_that, with_processor, start_place, active_place, access_place, squash_place, commit_place, replace_place};
 ghost use Rattle.versions.specs.Versions.{is_own, squashed_by};
 
+use crate::class_set::ClassSet;
 use crate::order::Order;
 use crate::processor::{Class, Processor};
 use crate::refusal::Refusal;
@@ -28,6 +30,10 @@ pub trait TaskTable {
     // The address of class c that p holds.
     fn held(&self, p: Processor, c: Class) -> Option<u32>
         ensures { HeldIn (table self.now p) c result };
+
+    // A set of classes, outside of which p holds no address.
+    fn classes(&self, p: Processor) -> ClassSet
+        ensures { (c : ℕ) → c < 16 → has result c ≡ false → HeldIn (table self.now p) c None };
 
     // Whether p holds another address of a's class.
     fn class_taken(&self, p: Processor, a: u32) -> bool

@@ -1,4 +1,4 @@
-use Rattle.std.proofs.Common.{◌≡◌, ℕ, ◌||◌, eqb, ap, ◌∙◌}
+use Rattle.std.proofs.Common.{ℕ, ◌||◌, eqb, ap, ◌∙◌}
 use Rattle.versions.proofs.ClassSets.{set_in, set-inserted}
 use Rattle.versions.proofs.class_set.ClassSet.insert.Goals as goal
 

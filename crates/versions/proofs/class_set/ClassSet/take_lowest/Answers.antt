@@ -1,4 +1,4 @@
-use Rattle.std.proofs.Common.{◌≡◌, ◌<◌, ◌%◌, ℕ, not, ◌&&◌, eqb, sym, ap, ◌∙◌, subst, arith}
+use Rattle.std.proofs.Common.{◌≡◌, ℕ, not, ◌&&◌, eqb, sym, ap, ◌∙◌, subst, arith}
 use Rattle.versions.specs.ClassSets.{Lowest}
 use Rattle.versions.proofs.ClassSets.{lowest, lowest_is, set_in, set-cleared, cleared-less}
 use Rattle.versions.proofs.class_set.ClassSet.take_lowest.Goals as goal
