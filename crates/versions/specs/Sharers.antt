@@ -1,10 +1,10 @@
 -- What the active tasks have at one address: a bit for each, by its place in the order.
-use Rattle.std.specs.Prelude.{◌≡◌, ℕ, ◌<◌, ◌≤◌, Bool, true, false, List, map, length, get_or, Some, None, Option, ◌==◌}
+use Rattle.std.specs.Prelude.{◌≡◌, ℕ, ◌-◌, ◌<◌, ◌≤◌, Bool, true, false, List, map, length, drop, get_or, Some, None, Option, ◌==◌}
 use Rattle.std.specs.Int.{bit_at}
 use Rattle.versions.specs.declared.sharers.Sharers.{Sharers}
 use Rattle.versions.specs.declared.version.Version.{Version}
 use Rattle.versions.specs.Tables.{Table}
-use Rattle.versions.specs.Versions.{no_version, is_own, is_held}
+use Rattle.versions.specs.Versions.{no_version, is_own, is_held, squashed_by}
 
 -- whether bit i of n is 1
 abbrev pub bit_set : ℕ → ℕ → Bool
@@ -31,6 +31,11 @@ pub record SharersOf (vs : List Version) (s : Sharers) : Type 0 where
   pub few : length vs ≤ 4
   pub marks : (i : ℕ) → bit_set s.marks i ≡ (get_or vs i no_version).mark
   pub owns : (i : ℕ) → bit_set s.owns i ≡ owns_at vs i
+
+-- a store squashes the tasks from this place on, where it squashes any of those from k on
+abbrev pub SquashedFrom : List Version → ℕ → Option ℕ → Type 0
+SquashedFrom vs k None = squashed_by (drop k vs) ≡ 0
+SquashedFrom vs k (Some j) = (j < length vs) × (squashed_by (drop k vs) ≡ length vs - j)
 
 -- the versions of a that some processors have, and the sharers of their address among the tasks on these processors
 abbrev pub versions_of : Table → ℕ → List ℕ → List Version

@@ -1,9 +1,8 @@
 // Which of the active tasks have a mark at one address, and which an own word. All is found of these bits without a loop: where a search of
 // the tasks would end can't be foreseen, and a wrong guess costs more than to ask all four.
-ghost use Rattle.std.specs.Prelude.{◌≡◌, ℕ, ◌<◌, ◌≤◌, [], ◌∷◌, ◌++◌, List, length, drop};
+ghost use Rattle.std.specs.Prelude.{◌≡◌, ℕ, ◌<◌, ◌≤◌, [], ◌∷◌, ◌++◌, List, length};
 ghost use Rattle.versions.specs.declared.version.Version.{Version};
-ghost use Rattle.versions.specs.Sharers.{SharersOf, bit_set, LastBelow, FirstFrom, owns_at, holds_at};
-ghost use Rattle.versions.specs.Versions.{squashed_by};
+ghost use Rattle.versions.specs.Sharers.{SharersOf, SquashedFrom, bit_set, LastBelow, FirstFrom, owns_at, holds_at};
 
 use crate::version::Version;
 
@@ -63,17 +62,15 @@ impl Sharers {
         first_from(self.marks | self.owns, k)
     }
 
-    // How many of n tasks, from place k on, a store to the address squashes.
-    pub fn squashed(self, k: usize, n: usize) -> usize
+    // The place of the first task that a store to the address squashes, by the task before place k; all after it go too.
+    pub fn squashed_from(self, k: usize) -> Option<usize>
         requires { k ≤ 4 }
-        ensures { (vs : List Version) → SharersOf vs self → n ≡ length vs → result ≡ squashed_by (drop k vs) }
+        ensures { (vs : List Version) → SharersOf vs self → SquashedFrom vs k result }
     {
-        let Some(marked) = first_from(self.marks, k) else {
-            return 0;
-        };
+        let marked = first_from(self.marks, k)?;
         match first_from(self.owns, k) {
-            Some(own) if own < marked => 0,
-            _ => n - marked,
+            Some(own) if own < marked => None,
+            _ => Some(marked),
         }
     }
 }
