@@ -10,6 +10,7 @@ pub mod Tabling
 pub mod Fits
 pub mod Judging
 pub mod Classes
+pub mod Writing
 pub mod ClassSets
 pub mod Stepping
 pub mod Serving

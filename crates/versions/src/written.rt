@@ -58,8 +58,8 @@ pub fn write_own<M: Memory>(memory: &mut M, a: u32, own: Option<u32>) -> Written
     }
 }
 
-// Writes the own words of p's task to memory, class by class: each step is a call with its class, and there are no classes to go over but
-// their numbers.
+// Writes the own words of p's task to memory, class by class and the lowest first. It goes over the classes of which the task may hold an
+// address, since those are few of the sixteen; where a class is in the set and nothing is held of it, `write_class` writes nothing.
 pub fn write_back<M: Memory, T: TaskTable>(memory: &mut M, tasks: &T, p: Processor) -> WrittenBack
     requires sound { M.Memory.sound memory.old }
     requires fitting { Fitting (length (M.Memory.words memory.old)) (T.TaskTable.processors tasks.now) (T.TaskTable.table tasks.now) }
@@ -70,8 +70,9 @@ pub fn write_back<M: Memory, T: TaskTable>(memory: &mut M, tasks: &T, p: Process
     ensures kept { M.Memory.sound memory.new }
 {
     let mut wrote = WrittenBack::default();
-    for c in 0..16 {
-        wrote = wrote.and(write_class(memory, tasks, p, Class::of(c)));
+    let mut left = tasks.classes(p);
+    while let Some(c) = left.take_lowest() {
+        wrote = wrote.and(write_class(memory, tasks, p, c));
     }
     wrote
 }
