@@ -4,7 +4,9 @@ use Rattle.std.specs.Prelude.{◌≡◌, ◌≢◌, ℕ, ◌%◌, ◌<◌, Bool,
 use Rattle.std.specs.List.{find, list_any}
 use Rattle.std.specs.Option.{option_map, unwrap_or}
 use Rattle.buffer.specs.declared.rows.Row.{Row}
+use Rattle.versions.specs.declared.class_set.ClassSet.{ClassSet}
 use Rattle.versions.specs.declared.version.Version.{Version}
+use Rattle.versions.specs.ClassSets.{has}
 use Rattle.versions.specs.Tables.{Table}
 use Rattle.versions.specs.Versions.{no_version, is_held}
 
@@ -57,6 +59,15 @@ pub record GoodSet (c : ℕ) (rs : List Row) : Type 0 where
 pub record GoodSets (sets : List (List Row)) : Type 0 where
   pub count : length sets ≡ 16
   pub each : (c : ℕ) → c < 16 → GoodSet c (slice_index_or sets c [])
+
+-- past the sets of classes
+abbrev pub no_class : ClassSet
+no_class = record { bits = 0 }
+
+-- a set of classes for each processor: what a processor holds is of a class in its set
+pub record Covered (classes : List ClassSet) (sets : List (List Row)) : Type 0 where
+  pub count : length classes ≡ 4
+  pub all : (p b : ℕ) → p < 4 → is_held (in_sets sets p b) ≡ true → has (slice_index_or classes p no_class) (b % 16) ≡ true
 
 -- the row at place j can take p's version of a: it is the last of that address, or it is free and none is of that address; and p
 -- holds no other row of the set

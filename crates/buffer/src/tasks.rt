@@ -7,7 +7,7 @@ ghost use Rattle.buffer.specs.Tasks.{table_of, versions_at};
 ghost use Rattle.versions.specs.Versions.{is_held, nearest_own, with_load, with_store};
 
 use crate::rows::Rows;
-use versions::{Class, Order, Processor, TaskTable, Version};
+use versions::{Class, ClassSet, Order, Processor, TaskTable, Version};
 
 #[derive(Drop)]
 pub struct Tasks {
@@ -132,6 +132,10 @@ impl TaskTable for Tasks {
 
     fn held(&self, p: Processor, c: Class) -> Option<u32> {
         self.rows.held(p, c)
+    }
+
+    fn classes(&self, p: Processor) -> ClassSet {
+        self.rows.classes(p)
     }
 
     // In place of the trait's, which looks for what p holds of the class first: mostly it holds a, and that is found sooner.
