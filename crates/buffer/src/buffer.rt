@@ -75,9 +75,8 @@ impl<M: Memory> VersionStore for CentralBuffer<M> {
 
     fn store(&mut self, p: u32, a: u32, w: u32) -> Answer {
         let (p, k) = self.tasks.access(self.memory.size(), p, a)?;
-        let active = self.tasks.order().len();
         let hit = self.tasks.squashed(k + 1, a);
-        self.tasks.cut(active - hit);
+        self.tasks.cut_last(hit);
         self.tasks.note_store(p, a, w);
         Ok(hit as u32)
     }

@@ -1,5 +1,5 @@
 // The active tasks of the central buffer: their order, and the rows with their versions.
-ghost use Rattle.std.specs.Prelude.{◌≡◌, ℕ, ◌+◌, ◌<◌, ◌≤◌, [], ◌∷◌, ◌++◌, length, take, drop, None};
+ghost use Rattle.std.specs.Prelude.{◌≡◌, ℕ, ◌+◌, ◌-◌, ◌<◌, ◌≤◌, [], ◌∷◌, ◌++◌, length, take, drop, None};
 ghost use Rattle.versions.specs.Orders.{place_in};
 ghost use Rattle.versions.specs.Tables.{HeldIn, empty_table, with_version, without, without_all};
 ghost use Rattle.buffer.specs.Rows.{HoldsNoOther};
@@ -104,6 +104,18 @@ impl Tasks {
             self.rows.clear(*p);
         }
         self.order.cut(k);
+    }
+
+    // Removes the last n tasks, with their versions; n is bounded by a clause, as above. Most stores squash none: they change nothing.
+    pub fn cut_last(&mut self, n: usize)
+        requires { n ≤ length self.old.order }
+        ensures order { self.new.order ≡ take (length self.old.order - n) self.old.order }
+        ensures table { table_of self.new ≡ without_all (table_of self.old) (drop (length self.old.order - n) self.old.order) }
+    {
+        if n > 0 {
+            let active = self.order.len();
+            self.cut(active - n);
+        }
     }
 
     // Removes the oldest task, p's, with its versions; that there is one is a clause, as above.
