@@ -11,8 +11,10 @@ use Rattle.std.proofs.lemmas.List.Quantifiers.{position-Some}
 use Rattle.std.proofs.lemmas.Bool.{eqb-true, eqb-false, eq-eqb, ne_eqb, lt-ltb, cases_eq, cases_lt, cond-true, cond-false, true≢false, not-true, not-false, and_parts}
 use Rattle.std.proofs.lemmas.Bool.Decides.{nat_tests}
 use Rattle.buffer.specs.declared.rows.Row.{Row}
+use Rattle.versions.specs.declared.sharers.Sharers.{Sharers}
 use Rattle.versions.specs.declared.version.Version.{Version}
-use Rattle.versions.specs.Versions.{no_version, is_held}
+use Rattle.versions.specs.Sharers.{SharersOf}
+use Rattle.versions.specs.Versions.{no_version, is_own, is_held}
 use Rattle.versions.specs.Tables.{empty_table, with_version, HeldIn}
 use Rattle.versions.proofs.Classes.{unheld-none}
 use Rattle.buffer.specs.Sets.{no_row, in_row, row_with, is_free, in_rows, in_sets, without_row, GoodSet, GoodSets, LastOf, HeldBefore, RowFor}
@@ -103,6 +105,25 @@ placed-version c rs p a j g h =
 
 pub placed-none : (c : ℕ) (rs : List Row) (p a : ℕ) → GoodSet c rs → LastOf rs a 4 None → in_rows rs p a ≡ no_version
 placed-none c rs p a g h = rows-none rs p a (λ i k s m. h i (omega (arith, g.count)) s)
+
+-- the sharers of a, by that row; and where there is none
+pub sharers-placed : (c : ℕ) (rs : List Row) (ps : List ℕ) (a j : ℕ) (s : Sharers) → GoodSet c rs → LastOf rs a 4 (Some j) → SharersOf (map (in_row (get_or rs j no_row)) ps) s
+    → SharersOf (map (λ q. in_rows rs q a) ps) s
+sharers-placed c rs ps a j s g h x = subst (λ (f : ℕ → Version). SharersOf (map f ps) s) (fun_ext (λ q. sym (placed-version c rs q a j g h))) x
+
+pub sharers-none : (c : ℕ) (rs : List Row) (ps : List ℕ) (a : ℕ) (s : Sharers) → GoodSet c rs → LastOf rs a 4 None → length ps ≤ 4 → SharersOf [] s → SharersOf (map (λ q. in_rows rs q a) ps) s
+sharers-none c rs ps a s g h few x =
+    let f : ℕ → Version = λ q. in_rows rs q a in
+    let nothing : (i : ℕ) → get_or (map f ps) i no_version ≡ no_version =
+    λ i. ⊎_elim
+    (λ (l : i < length ps). get_or-map f ps i 0 no_version l ∙ placed-none c rs (get_or ps i 0) a g h)
+    (λ (m : length ps ≤ i). get_or_past (map f ps) i no_version (rw length-map m))
+    (cases_lt i (length ps)) in
+    record {
+      few = rw length-map few;
+      marks = λ i. x.marks i ∙ sym (ap (λ (v : Version). v.mark) (nothing i));
+      owns = λ i. x.owns i ∙ sym (ap is_own (nothing i));
+    }
 
 -- nobody holds a free row, and somebody one that is not free
 pub free-unheld : (r : Row) → is_free r ≡ true → (q : ℕ) → is_held (in_row r q) ≡ false

@@ -3,10 +3,11 @@
 ghost use Rattle.std.specs.Prelude.{◌≡◌, ℕ, ◌%◌, ◌<◌, true, ◌&&◌, map, length, get_or, ◌==◌, slice_index_or, slice_set};
 ghost use Rattle.std.specs.List.{position};
 ghost use Rattle.buffer.specs.Sets.{no_row, in_row, row_with, is_free, in_rows, without_row, GoodSet, GoodSets, LastOf, HeldBefore, RowFor, PutInto, Covered};
+ghost use Rattle.versions.specs.Sharers.{SharersOf, SharersIn};
 ghost use Rattle.versions.specs.Versions.{is_held, with_store};
 
 use std::marker::Model;
-use versions::{Class, ClassSet, Processor, Version};
+use versions::{Class, ClassSet, Order, Processor, Sharers, Version};
 
 // An address and a version of it for each processor. A row without any is free.
 #[derive(Clone, Copy)]
@@ -85,6 +86,23 @@ impl Set {
             Some(j) => self.rows[j].version(p),
             None => Version::none(),
         }
+    }
+
+    // The sharers of a among the tasks of an order. Its row is looked for once, and then asked for each task.
+    fn sharers(&self, order: &Order, a: u32) -> Sharers
+        requires { GoodSet (a % 16) self.now }
+        ensures address { result.address ≡ a }
+        ensures tasks { SharersOf (map (λ q. in_rows self.now q a) order.now) result }
+    {
+        let mut sharers = Sharers::new(a);
+        let processors = order.processors();
+        if let Some(j) = self.address_place(a) {
+            let row = &self.rows[j];
+            for (k, p) in processors.iter().enumerate() {
+                sharers.add(k, row.version(*p));
+            }
+        }
+        sharers
     }
 
     // The address that p holds. All rows are looked at, as in `address_place`.
@@ -203,6 +221,14 @@ impl Rows {
         ensures { result ≡ table_in self.now p a }
     {
         self.sets[Class::of(a).index()].version(p, a)
+    }
+
+    // The sharers of a among the tasks of an order.
+    pub fn sharers(&self, order: &Order, a: u32) -> Sharers
+        ensures address { result.address ≡ a }
+        ensures tasks { SharersIn order.now (table_in self.now) result }
+    {
+        self.sets[Class::of(a).index()].sharers(order, a)
     }
 
     // A set of classes, outside of which p holds no address.

@@ -7,7 +7,7 @@ ghost use Rattle.buffer.specs.Tasks.{table_of, versions_at};
 ghost use Rattle.versions.specs.Versions.{is_held, nearest_own, with_load, with_store};
 
 use crate::rows::Rows;
-use versions::{Class, ClassSet, Order, Processor, TaskTable, Version};
+use versions::{Class, ClassSet, Order, Processor, Sharers, TaskTable, Version};
 
 #[derive(Drop)]
 pub struct Tasks {
@@ -34,7 +34,8 @@ impl Tasks {
         requires few { length self.now.order ≤ 4 }
         ensures { result ≡ nearest_own (versions_at self.now a (take (k + 1) self.now.order)) }
     {
-        self.nearest(k + 1, a).and_then(|p| self.version(p, a).own)
+        self.nearest(k + 1, self.sharers(a))
+            .and_then(|p| self.version(p, a).own)
     }
 
     // Adds a task on p, the youngest; that p has none yet is a clause, for it depends on the order.
@@ -148,6 +149,11 @@ impl TaskTable for Tasks {
 
     fn classes(&self, p: Processor) -> ClassSet {
         self.rows.classes(p)
+    }
+
+    // In place of the trait's, which looks for the row of the address anew for each task.
+    fn sharers(&self, a: u32) -> Sharers {
+        self.rows.sharers(&self.order, a)
     }
 
     // In place of the trait's, which looks for what p holds of the class first: mostly it holds a, and that is found sooner.
