@@ -17,7 +17,7 @@ use Rattle.versions.specs.Sharers.{SharersOf}
 use Rattle.versions.specs.Versions.{no_version, is_own, is_held}
 use Rattle.versions.specs.Tables.{empty_table, with_version, HeldIn}
 use Rattle.versions.proofs.Classes.{unheld-none}
-use Rattle.buffer.specs.Sets.{no_row, in_row, row_with, is_free, in_rows, in_sets, without_row, GoodSet, GoodSets, LastOf, HeldBefore, RowFor}
+use Rattle.buffer.specs.Sets.{no_row, free_row, in_row, row_with, is_free, in_rows, in_sets, without_row, GoodSet, GoodSets, LastOf, HeldBefore, RowFor}
 use Rattle.buffer.specs.Rows.{HoldsNoOther}
 
 -- the version, and the address, of the first row that passes, row by row
@@ -491,14 +491,13 @@ clear-table sets c p g l =
     )
 
 -- all rows free
-pub new-table : (r : Row) (sets : List (List Row)) → r.versions ≡ replicate 4 no_version → sets ≡ replicate 16 (replicate 4 r)
-    → (in_sets sets ≡ empty_table) × GoodSets sets
-new-table r sets none is =
+pub new-table : (sets : List (List Row)) → sets ≡ replicate 16 (replicate 4 free_row) → (in_sets sets ≡ empty_table) × GoodSets sets
+new-table sets is =
+    let r = free_row in
     let at : (c : ℕ) → c < 16 → get_or sets c [] ≡ replicate 4 r = λ c l. ap (λ (t : List (List Row)). get_or t c []) is ∙ get_or-replicate 16 c (replicate 4 r) [] l in
     let row : (c : ℕ) → c < 16 → (i : ℕ) → i < 4 → get_or (get_or sets c []) i no_row ≡ r = λ c l i k. ap (λ (t : List Row). get_or t i no_row) (at c l) ∙ get_or-replicate 4 i r no_row k in
     let free : (q : ℕ) → is_held (in_row r q) ≡ false =
-    λ q. ap (λ (t : List Version). is_held (get_or t q no_version)) none
-    ∙ ⊎_elim
+    λ q. ⊎_elim
     (λ (l : q < 4). ap is_held (get_or-replicate 4 q no_version no_version l))
     (λ (m : 4 ≤ q). ap is_held (get_or_past (replicate 4 no_version) q no_version (rw length-replicate m)))
     (cases_lt q 4) in
@@ -509,7 +508,7 @@ new-table r sets none is =
         count = ap length is ∙ length-replicate 16 (replicate 4 r);
         each = λ c l. record {
           count = four c l;
-          wide = λ i k. ap (λ (x : Row). length x.versions) (row c l i k) ∙ (ap length none ∙ length-replicate 4 no_version);
+          wide = λ i k. ap (λ (x : Row). length x.versions) (row c l i k) ∙ length-replicate 4 no_version;
           one = λ q i k m n e f. absurd (true≢false (sym e ∙ unheld q c l i m));
           class = λ q i k h. absurd (true≢false (sym h ∙ unheld q c l i k));
           last = λ q i k m n h same. true≢false (sym h ∙ unheld q c l i (omega arith));

@@ -1,6 +1,6 @@
 -- The rows of the central buffer, set by set: a row has an address and a version for each processor; address a lives in
 -- set a mod 16.
-use Rattle.std.specs.Prelude.{◌≡◌, ◌≢◌, ℕ, ◌%◌, ◌<◌, Bool, true, false, not, ◌&&◌, ◌⊎◌, List, [], length, get_or, Option, Some, None, ◌==◌, slice_index_or, slice_set}
+use Rattle.std.specs.Prelude.{◌≡◌, ◌≢◌, ℕ, ◌%◌, ◌<◌, Bool, true, false, not, ◌&&◌, ◌⊎◌, List, [], length, get_or, replicate, Option, Some, None, ◌==◌, slice_index_or, slice_set}
 use Rattle.std.specs.List.{find, list_any}
 use Rattle.std.specs.Option.{option_map, unwrap_or}
 use Rattle.buffer.specs.declared.rows.Row.{Row}
@@ -13,6 +13,10 @@ use Rattle.versions.specs.Versions.{no_version, is_held}
 -- past the rows of a set
 abbrev pub no_row : Row
 no_row = record { address = 0; versions = [] }
+
+-- a row without any version
+abbrev pub free_row : Row
+free_row = record { address = 0; versions = replicate 4 no_version }
 
 -- p's version in a row, and the row with v as p's version of a
 abbrev pub in_row : Row → ℕ → Version

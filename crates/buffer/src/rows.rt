@@ -1,8 +1,8 @@
 // The rows of the central buffer: 16 sets of four. Address a has set a mod 16. Four rows are enough for a set,
 // since each of four tasks holds at most one address of a class.
-ghost use Rattle.std.specs.Prelude.{◌≡◌, ℕ, ◌%◌, ◌<◌, true, ◌&&◌, map, length, get_or, ◌==◌, slice_index_or, slice_set};
+ghost use Rattle.std.specs.Prelude.{◌≡◌, ℕ, ◌%◌, ◌<◌, true, ◌&&◌, map, length, get_or, ◌==◌, replicate, slice_index_or, slice_set};
 ghost use Rattle.std.specs.List.{position};
-ghost use Rattle.buffer.specs.Sets.{no_row, in_row, row_with, is_free, in_rows, without_row, GoodSet, GoodSets, LastOf, HeldBefore, RowFor, PutInto, Covered};
+ghost use Rattle.buffer.specs.Sets.{no_row, free_row, in_row, row_with, is_free, in_rows, without_row, GoodSet, GoodSets, LastOf, HeldBefore, RowFor, PutInto, Covered};
 ghost use Rattle.versions.specs.Sharers.{SharersOf, SharersIn};
 ghost use Rattle.versions.specs.Versions.{is_held, with_store};
 
@@ -77,6 +77,19 @@ impl Model for Set {
 }
 
 impl Set {
+    // Four free rows. It is called, not copied in: LLVM then copies the set sixteen times, where it would write each part of each version
+    // by itself, in thousands of instructions.
+    #[inline(never)]
+    fn free() -> Set
+        ensures { result ≡ replicate 4 free_row }
+    {
+        let row = Row {
+            address: 0,
+            versions: [Version::none(); 4],
+        };
+        Set { rows: [row; 4] }
+    }
+
     // p's version of a.
     fn version(&self, p: Processor, a: u32) -> Version
         requires { GoodSet (a % 16) self.now }
@@ -206,12 +219,8 @@ impl Rows {
     pub fn new() -> Rows
         ensures { table_in result ≡ empty_table }
     {
-        let row = Row {
-            address: 0,
-            versions: [Version::none(); 4],
-        };
         Rows {
-            sets: [Set { rows: [row; 4] }; 16],
+            sets: [Set::free(); 16],
             classes: [ClassSet::new(); 4],
         }
     }
