@@ -11,11 +11,13 @@ use Rattle.std.proofs.lemmas.List.Quantifiers.{position-Some}
 use Rattle.std.proofs.lemmas.Bool.{eqb-true, eqb-false, eq-eqb, ne_eqb, lt-ltb, cases_eq, cases_lt, cond-true, cond-false, true≢false, not-true, not-false, and_parts}
 use Rattle.std.proofs.lemmas.Bool.Decides.{nat_tests}
 use Rattle.buffer.specs.declared.rows.Row.{Row}
+use Rattle.versions.specs.declared.sharers.Sharers.{Sharers}
 use Rattle.versions.specs.declared.version.Version.{Version}
-use Rattle.versions.specs.Versions.{no_version, is_held}
-use Rattle.versions.specs.Tables.{empty_table, with_version, without, HeldIn}
+use Rattle.versions.specs.Sharers.{SharersOf}
+use Rattle.versions.specs.Versions.{no_version, is_own, is_held}
+use Rattle.versions.specs.Tables.{empty_table, with_version, HeldIn}
 use Rattle.versions.proofs.Classes.{unheld-none}
-use Rattle.buffer.specs.Sets.{no_row, in_row, row_with, is_free, in_rows, in_sets, without_row, GoodSet, GoodSets, LastOf, HeldBefore, RowFor}
+use Rattle.buffer.specs.Sets.{no_row, free_row, in_row, row_with, is_free, in_rows, in_sets, without_row, GoodSet, GoodSets, LastOf, HeldBefore, RowFor}
 use Rattle.buffer.specs.Rows.{HoldsNoOther}
 
 -- the version, and the address, of the first row that passes, row by row
@@ -103,6 +105,25 @@ placed-version c rs p a j g h =
 
 pub placed-none : (c : ℕ) (rs : List Row) (p a : ℕ) → GoodSet c rs → LastOf rs a 4 None → in_rows rs p a ≡ no_version
 placed-none c rs p a g h = rows-none rs p a (λ i k s m. h i (omega (arith, g.count)) s)
+
+-- the sharers of a, by that row; and where there is none
+pub sharers-placed : (c : ℕ) (rs : List Row) (ps : List ℕ) (a j : ℕ) (s : Sharers) → GoodSet c rs → LastOf rs a 4 (Some j) → SharersOf (map (in_row (get_or rs j no_row)) ps) s
+    → SharersOf (map (λ q. in_rows rs q a) ps) s
+sharers-placed c rs ps a j s g h x = subst (λ (f : ℕ → Version). SharersOf (map f ps) s) (fun_ext (λ q. sym (placed-version c rs q a j g h))) x
+
+pub sharers-none : (c : ℕ) (rs : List Row) (ps : List ℕ) (a : ℕ) (s : Sharers) → GoodSet c rs → LastOf rs a 4 None → length ps ≤ 4 → SharersOf [] s → SharersOf (map (λ q. in_rows rs q a) ps) s
+sharers-none c rs ps a s g h few x =
+    let f : ℕ → Version = λ q. in_rows rs q a in
+    let nothing : (i : ℕ) → get_or (map f ps) i no_version ≡ no_version =
+    λ i. ⊎_elim
+    (λ (l : i < length ps). get_or-map f ps i 0 no_version l ∙ placed-none c rs (get_or ps i 0) a g h)
+    (λ (m : length ps ≤ i). get_or_past (map f ps) i no_version (rw length-map m))
+    (cases_lt i (length ps)) in
+    record {
+      few = rw length-map few;
+      marks = λ i. x.marks i ∙ sym (ap (λ (v : Version). v.mark) (nothing i));
+      owns = λ i. x.owns i ∙ sym (ap is_own (nothing i));
+    }
 
 -- nobody holds a free row, and somebody one that is not free
 pub free-unheld : (r : Row) → is_free r ≡ true → (q : ℕ) → is_held (in_row r q) ≡ false
@@ -426,41 +447,57 @@ cleared-held r p q h = go (eqb q p) (sym (ap is_held (cleared-row r p q)) ∙ h)
     go true e = absurd (true≢false (sym e))
     go false e = e
 
-pub clear-table : (sets later : List (List Row)) (p : ℕ) → GoodSets sets → later ≡ map (map (without_row p)) sets
-    → (in_sets later ≡ without (in_sets sets) p) × GoodSets later
-clear-table sets later p g is =
-    let at : (c : ℕ) → c < 16 → get_or later c [] ≡ map (without_row p) (get_or sets c []) =
-    λ c l. ap (λ (t : List (List Row)). get_or t c []) is ∙ get_or-map (map (without_row p)) sets c [] [] (omega (arith, g.count)) in
-    let row : (c : ℕ) → c < 16 → (i : ℕ) → i < 4 → get_or (get_or later c []) i no_row ≡ without_row p (get_or (get_or sets c []) i no_row) =
-    λ c l i k. ap (λ (t : List Row). get_or t i no_row) (at c l) ∙ get_or-map (without_row p) (get_or sets c []) i no_row no_row (omega (arith, (g.each c l).count)) in (
-      fun_ext (λ q. fun_ext (λ b. ap (λ (t : List Row). in_rows t q b) (at (b % 16) (omega arith)) ∙ cleared-rows (get_or sets (b % 16) []) p q b)),
+cleared-good : (c : ℕ) (rs : List Row) (p : ℕ) → GoodSet c rs → GoodSet c (map (without_row p) rs)
+cleared-good c rs p s =
+    let row : (i : ℕ) → i < 4 → get_or (map (without_row p) rs) i no_row ≡ without_row p (get_or rs i no_row) = λ i k. get_or-map (without_row p) rs i no_row no_row (omega (arith, s.count)) in
+    let held : (q i : ℕ) → i < 4 → is_held (in_row (get_or (map (without_row p) rs) i no_row) q) ≡ true → is_held (in_row (get_or rs i no_row) q) ≡ true =
+    λ q i k h. cleared-held (get_or rs i no_row) p q (sym (ap (λ (r : Row). is_held (in_row r q)) (row i k)) ∙ h) in
+    record {
+      count = length-map rs (without_row p) ∙ s.count;
+      wide = λ i k. ap (λ (r : Row). length r.versions) (row i k) ∙ (length-set (get_or rs i no_row).versions p no_version ∙ s.wide i k);
+      one = λ q i k m n e f. s.one q i k m n (held q i m e) (held q k n f);
+      class = λ q i k h. ap (λ (r : Row). r.address % 16) (row i k) ∙ s.class q i k (held q i k h);
+      last = λ q i k m n h same. s.last q i k m n (held q i (omega arith) h) (sym (ap (λ (r : Row). r.address) (row k n)) ∙ (same ∙ ap (λ (r : Row). r.address) (row i (omega arith))));
+    }
+
+-- p's versions taken out of set c: the table loses those of class c
+pub clear-table : (sets : List (List Row)) (c p : ℕ) → GoodSets sets → c < 16
+    → ((q b : ℕ) → in_sets (set sets c (map (without_row p) (get_or sets c []))) q b ≡ cond (eqb q p && eqb (b % 16) c) no_version (in_sets sets q b))
+    × GoodSets (set sets c (map (without_row p) (get_or sets c [])))
+clear-table sets c p g l =
+    let new = map (without_row p) (get_or sets c []) in
+    let here : get_or (set sets c new) c [] ≡ new = get_or-set_same sets c new [] (omega (arith, g.count)) in
+    let there : (d : ℕ) → d ≢ c → get_or (set sets c new) d [] ≡ get_or sets d [] = λ d ne. get_or-set_other sets c d new [] ne in (
+      λ q b.
+          ⊎_elim
+          (λ (e : b % 16 ≡ c).
+          let same : (eqb q p && eqb (b % 16) c) ≡ eqb q p = let f : eqb (b % 16) c ≡ true = eq-eqb (b % 16) c e in grind (arith, nat_tests) in
+          ap (λ (d : ℕ). in_rows (get_or (set sets c new) d []) q b) e
+          ∙ (ap (λ (t : List Row). in_rows t q b) here
+          ∙ (cleared-rows (get_or sets c []) p q b
+          ∙ (ap (λ (d : ℕ). cond (eqb q p) no_version (in_rows (get_or sets d []) q b)) (sym e) ∙ ap (λ (t : Bool). cond t no_version (in_sets sets q b)) (sym same)))))
+          (λ (ne : b % 16 ≢ c).
+          let off : (eqb q p && eqb (b % 16) c) ≡ false = let f : eqb (b % 16) c ≡ false = ne_eqb (b % 16) c ne in grind (arith, nat_tests) in
+          ap (λ (t : List Row). in_rows t q b) (there (b % 16) ne) ∙ sym (cond-false (eqb q p && eqb (b % 16) c) no_version (in_sets sets q b) off))
+          (cases_eq (b % 16) c),
       record {
-        count = ap length is ∙ (length-map sets (map (without_row p)) ∙ g.count);
-        each = λ c l.
-            let s = g.each c l in
-            let rs = get_or sets c [] in
-            let held : (q i : ℕ) → i < 4 → is_held (in_row (get_or (get_or later c []) i no_row) q) ≡ true → is_held (in_row (get_or rs i no_row) q) ≡ true =
-            λ q i k h. cleared-held (get_or rs i no_row) p q (sym (ap (λ (r : Row). is_held (in_row r q)) (row c l i k)) ∙ h) in
-            record {
-              count = ap length (at c l) ∙ (length-map rs (without_row p) ∙ s.count);
-              wide = λ i k. ap (λ (r : Row). length r.versions) (row c l i k) ∙ (length-set (get_or rs i no_row).versions p no_version ∙ s.wide i k);
-              one = λ q i k m n e f. s.one q i k m n (held q i m e) (held q k n f);
-              class = λ q i k h. ap (λ (r : Row). r.address % 16) (row c l i k) ∙ s.class q i k (held q i k h);
-              last = λ q i k m n h same. s.last q i k m n (held q i (omega arith) h)
-                  (sym (ap (λ (r : Row). r.address) (row c l k n)) ∙ (same ∙ ap (λ (r : Row). r.address) (row c l i (omega arith))));
-            };
+        count = length-set sets c new ∙ g.count;
+        each = λ d k.
+            ⊎_elim
+            (λ (e : d ≡ c). subst (λ (y : ℕ). GoodSet y (get_or (set sets c new) y [])) (sym e) (subst (GoodSet c) (sym here) (cleared-good c (get_or sets c []) p (g.each c l))))
+            (λ (ne : d ≢ c). subst (GoodSet d) (sym (there d ne)) (g.each d k))
+            (cases_eq d c);
       },
     )
 
 -- all rows free
-pub new-table : (r : Row) (sets : List (List Row)) → r.versions ≡ replicate 4 no_version → sets ≡ replicate 16 (replicate 4 r)
-    → (in_sets sets ≡ empty_table) × GoodSets sets
-new-table r sets none is =
+pub new-table : (sets : List (List Row)) → sets ≡ replicate 16 (replicate 4 free_row) → (in_sets sets ≡ empty_table) × GoodSets sets
+new-table sets is =
+    let r = free_row in
     let at : (c : ℕ) → c < 16 → get_or sets c [] ≡ replicate 4 r = λ c l. ap (λ (t : List (List Row)). get_or t c []) is ∙ get_or-replicate 16 c (replicate 4 r) [] l in
     let row : (c : ℕ) → c < 16 → (i : ℕ) → i < 4 → get_or (get_or sets c []) i no_row ≡ r = λ c l i k. ap (λ (t : List Row). get_or t i no_row) (at c l) ∙ get_or-replicate 4 i r no_row k in
     let free : (q : ℕ) → is_held (in_row r q) ≡ false =
-    λ q. ap (λ (t : List Version). is_held (get_or t q no_version)) none
-    ∙ ⊎_elim
+    λ q. ⊎_elim
     (λ (l : q < 4). ap is_held (get_or-replicate 4 q no_version no_version l))
     (λ (m : 4 ≤ q). ap is_held (get_or_past (replicate 4 no_version) q no_version (rw length-replicate m)))
     (cases_lt q 4) in
@@ -471,7 +508,7 @@ new-table r sets none is =
         count = ap length is ∙ length-replicate 16 (replicate 4 r);
         each = λ c l. record {
           count = four c l;
-          wide = λ i k. ap (λ (x : Row). length x.versions) (row c l i k) ∙ (ap length none ∙ length-replicate 4 no_version);
+          wide = λ i k. ap (λ (x : Row). length x.versions) (row c l i k) ∙ length-replicate 4 no_version;
           one = λ q i k m n e f. absurd (true≢false (sym e ∙ unheld q c l i m));
           class = λ q i k h. absurd (true≢false (sym h ∙ unheld q c l i k));
           last = λ q i k m n h same. true≢false (sym h ∙ unheld q c l i (omega arith));

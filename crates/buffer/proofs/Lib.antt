@@ -1,2 +1,3 @@
 mod Buffering
+mod Covering
 pub mod Taking

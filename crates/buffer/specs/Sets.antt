@@ -1,16 +1,22 @@
 -- The rows of the central buffer, set by set: a row has an address and a version for each processor; address a lives in
 -- set a mod 16.
-use Rattle.std.specs.Prelude.{◌≡◌, ◌≢◌, ℕ, ◌%◌, ◌<◌, Bool, true, false, not, ◌&&◌, ◌⊎◌, List, [], length, get_or, Option, Some, None, ◌==◌, slice_index_or, slice_set}
+use Rattle.std.specs.Prelude.{◌≡◌, ◌≢◌, ℕ, ◌%◌, ◌<◌, Bool, true, false, not, ◌&&◌, ◌⊎◌, List, [], length, get_or, replicate, Option, Some, None, ◌==◌, slice_index_or, slice_set}
 use Rattle.std.specs.List.{find, list_any}
 use Rattle.std.specs.Option.{option_map, unwrap_or}
 use Rattle.buffer.specs.declared.rows.Row.{Row}
+use Rattle.versions.specs.declared.class_set.ClassSet.{ClassSet}
 use Rattle.versions.specs.declared.version.Version.{Version}
+use Rattle.versions.specs.ClassSets.{has}
 use Rattle.versions.specs.Tables.{Table}
 use Rattle.versions.specs.Versions.{no_version, is_held}
 
 -- past the rows of a set
 abbrev pub no_row : Row
 no_row = record { address = 0; versions = [] }
+
+-- a row without any version
+abbrev pub free_row : Row
+free_row = record { address = 0; versions = replicate 4 no_version }
 
 -- p's version in a row, and the row with v as p's version of a
 abbrev pub in_row : Row → ℕ → Version
@@ -57,6 +63,15 @@ pub record GoodSet (c : ℕ) (rs : List Row) : Type 0 where
 pub record GoodSets (sets : List (List Row)) : Type 0 where
   pub count : length sets ≡ 16
   pub each : (c : ℕ) → c < 16 → GoodSet c (slice_index_or sets c [])
+
+-- past the sets of classes
+abbrev pub no_class : ClassSet
+no_class = record { bits = 0 }
+
+-- a set of classes for each processor: what a processor holds is of a class in its set
+pub record Covered (classes : List ClassSet) (sets : List (List Row)) : Type 0 where
+  pub count : length classes ≡ 4
+  pub all : (p b : ℕ) → p < 4 → is_held (in_sets sets p b) ≡ true → has (slice_index_or classes p no_class) (b % 16) ≡ true
 
 -- the row at place j can take p's version of a: it is the last of that address, or it is free and none is of that address; and p
 -- holds no other row of the set

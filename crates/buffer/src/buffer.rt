@@ -65,6 +65,8 @@ impl<M: Memory> VersionStore for CentralBuffer<M> {
         Ok(active as u32)
     }
 
+    // Loads and stores are always copied in: each has two callers, so that LLVM would call it, and a call costs a sixth of a turn.
+    #[inline(always)]
     fn load(&mut self, p: u32, a: u32) -> Answer {
         let (p, k) = self.tasks.access(self.memory.size(), p, a)?;
         let version = self.tasks.version(p, a);
@@ -73,11 +75,12 @@ impl<M: Memory> VersionStore for CentralBuffer<M> {
         Ok(w)
     }
 
+    #[inline(always)]
     fn store(&mut self, p: u32, a: u32, w: u32) -> Answer {
         let (p, k) = self.tasks.access(self.memory.size(), p, a)?;
-        let active = self.tasks.order().len();
-        let hit = self.tasks.squashed(k + 1, a);
-        self.tasks.cut(active - hit);
+        let sharers = self.tasks.sharers(a);
+        let hit = self.tasks.squashed(k + 1, sharers);
+        self.tasks.cut_last(hit);
         self.tasks.note_store(p, a, w);
         Ok(hit as u32)
     }

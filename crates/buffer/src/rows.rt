@@ -1,12 +1,13 @@
 // The rows of the central buffer: 16 sets of four. Address a has set a mod 16. Four rows are enough for a set,
 // since each of four tasks holds at most one address of a class.
-ghost use Rattle.std.specs.Prelude.{◌≡◌, ℕ, ◌%◌, ◌<◌, true, ◌&&◌, map, length, get_or, ◌==◌, slice_index_or, slice_set};
+ghost use Rattle.std.specs.Prelude.{◌≡◌, ℕ, ◌%◌, ◌<◌, true, ◌&&◌, map, length, get_or, ◌==◌, replicate, slice_index_or, slice_set};
 ghost use Rattle.std.specs.List.{position};
-ghost use Rattle.buffer.specs.Sets.{no_row, in_row, row_with, is_free, in_rows, without_row, GoodSet, GoodSets, LastOf, HeldBefore, RowFor, PutInto};
+ghost use Rattle.buffer.specs.Sets.{no_row, free_row, in_row, row_with, is_free, in_rows, without_row, GoodSet, GoodSets, LastOf, HeldBefore, RowFor, PutInto, Covered};
+ghost use Rattle.versions.specs.Sharers.{SharersOf, SharersIn};
 ghost use Rattle.versions.specs.Versions.{is_held, with_store};
 
 use std::marker::Model;
-use versions::{Class, Processor, Version};
+use versions::{Class, ClassSet, Order, Processor, Sharers, Version};
 
 // An address and a version of it for each processor. A row without any is free.
 #[derive(Clone, Copy)]
@@ -76,6 +77,19 @@ impl Model for Set {
 }
 
 impl Set {
+    // Four free rows. It is called, not copied in: LLVM then copies the set sixteen times, where it would write each part of each version
+    // by itself, in thousands of instructions.
+    #[inline(never)]
+    fn free() -> Set
+        ensures { result ≡ replicate 4 free_row }
+    {
+        let row = Row {
+            address: 0,
+            versions: [Version::none(); 4],
+        };
+        Set { rows: [row; 4] }
+    }
+
     // p's version of a.
     fn version(&self, p: Processor, a: u32) -> Version
         requires { GoodSet (a % 16) self.now }
@@ -85,6 +99,23 @@ impl Set {
             Some(j) => self.rows[j].version(p),
             None => Version::none(),
         }
+    }
+
+    // The sharers of a among the tasks of an order. Its row is looked for once, and then asked for each task.
+    fn sharers(&self, order: &Order, a: u32) -> Sharers
+        requires { GoodSet (a % 16) self.now }
+        ensures address { result.address ≡ a }
+        ensures tasks { SharersOf (map (λ q. in_rows self.now q a) order.now) result }
+    {
+        let mut sharers = Sharers::new(a);
+        let processors = order.processors();
+        if let Some(j) = self.address_place(a) {
+            let row = &self.rows[j];
+            for (k, p) in processors.iter().enumerate() {
+                sharers.add(k, row.version(*p));
+            }
+        }
+        sharers
     }
 
     // The address that p holds. All rows are looked at, as in `address_place`.
@@ -171,23 +202,26 @@ impl Set {
 #[derive(Drop)]
 pub struct Rows {
     sets: [Set; 16],
+    // For each processor, a set of classes outside of which it holds no row: most tasks hold few rows, and the other sets need no look
+    // where a task ends. It may be too large, since a version that is put may be none.
+    classes: [ClassSet; 4],
     ghost good: { GoodSets sets },
+    ghost covered: { Covered classes sets },
 }
 
 impl Rows {
+    ghost use Rattle.std.specs.Prelude.{false, None};
     ghost use Rattle.buffer.specs.Rows.{table_in, HoldsNoOther};
+    ghost use Rattle.versions.specs.ClassSets.{has};
     ghost use Rattle.versions.specs.Tables.{HeldIn, with_version, without, empty_table};
 
     // All rows are free.
     pub fn new() -> Rows
         ensures { table_in result ≡ empty_table }
     {
-        let row = Row {
-            address: 0,
-            versions: [Version::none(); 4],
-        };
         Rows {
-            sets: [Set { rows: [row; 4] }; 16],
+            sets: [Set::free(); 16],
+            classes: [ClassSet::new(); 4],
         }
     }
 
@@ -196,6 +230,21 @@ impl Rows {
         ensures { result ≡ table_in self.now p a }
     {
         self.sets[Class::of(a).index()].version(p, a)
+    }
+
+    // The sharers of a among the tasks of an order.
+    pub fn sharers(&self, order: &Order, a: u32) -> Sharers
+        ensures address { result.address ≡ a }
+        ensures tasks { SharersIn order.now (table_in self.now) result }
+    {
+        self.sets[Class::of(a).index()].sharers(order, a)
+    }
+
+    // A set of classes, outside of which p holds no address.
+    pub fn classes(&self, p: Processor) -> ClassSet
+        ensures { (c : ℕ) → c < 16 → has result c ≡ false → HeldIn (table_in self.now p) c None }
+    {
+        self.classes[p.index()]
     }
 
     // The address of class c that p holds.
@@ -210,8 +259,9 @@ impl Rows {
         requires { HoldsNoOther (table_in self.old p) a }
         ensures { table_in self.new ≡ with_version (table_in self.old) p a v }
     {
-        let set = &mut self.sets[Class::of(a).index()];
-        set.put(p, a, v);
+        let class = Class::of(a);
+        self.sets[class.index()].put(p, a, v);
+        self.classes[p.index()].insert(class);
     }
 
     // Puts w over p's version of a. p holds no other address of a's class.
@@ -219,15 +269,19 @@ impl Rows {
         requires { HoldsNoOther (table_in self.old p) a }
         ensures { table_in self.new ≡ with_version (table_in self.old) p a (with_store w (table_in self.old p a)) }
     {
-        self.sets[Class::of(a).index()].store(p, a, w);
+        let class = Class::of(a);
+        self.sets[class.index()].store(p, a, w);
+        self.classes[p.index()].insert(class);
     }
 
     // Takes p's versions out of all rows.
     pub fn clear(&mut self, p: Processor)
         ensures { table_in self.new ≡ without (table_in self.old) p }
     {
-        for set in self.sets.iter_mut() {
-            set.clear(p);
+        let mut left = self.classes[p.index()];
+        while let Some(c) = left.take_lowest() {
+            self.sets[c.index()].clear(p);
         }
+        self.classes[p.index()] = ClassSet::new();
     }
 }

@@ -1,5 +1,5 @@
 // The active tasks of the central buffer: their order, and the rows with their versions.
-ghost use Rattle.std.specs.Prelude.{◌≡◌, ℕ, ◌+◌, ◌<◌, ◌≤◌, [], ◌∷◌, ◌++◌, length, take, drop, None};
+ghost use Rattle.std.specs.Prelude.{◌≡◌, ℕ, ◌+◌, ◌-◌, ◌<◌, ◌≤◌, [], ◌∷◌, ◌++◌, length, take, drop, None};
 ghost use Rattle.versions.specs.Orders.{place_in};
 ghost use Rattle.versions.specs.Tables.{HeldIn, empty_table, with_version, without, without_all};
 ghost use Rattle.buffer.specs.Rows.{HoldsNoOther};
@@ -7,7 +7,7 @@ ghost use Rattle.buffer.specs.Tasks.{table_of, versions_at};
 ghost use Rattle.versions.specs.Versions.{is_held, nearest_own, with_load, with_store};
 
 use crate::rows::Rows;
-use versions::{Class, Order, Processor, TaskTable, Version};
+use versions::{Class, ClassSet, Order, Processor, Sharers, TaskTable, Version};
 
 #[derive(Drop)]
 pub struct Tasks {
@@ -34,7 +34,8 @@ impl Tasks {
         requires few { length self.now.order ≤ 4 }
         ensures { result ≡ nearest_own (versions_at self.now a (take (k + 1) self.now.order)) }
     {
-        self.nearest(k + 1, a).and_then(|p| self.version(p, a).own)
+        self.nearest(k + 1, self.sharers(a))
+            .and_then(|p| self.version(p, a).own)
     }
 
     // Adds a task on p, the youngest; that p has none yet is a clause, for it depends on the order.
@@ -106,6 +107,18 @@ impl Tasks {
         self.order.cut(k);
     }
 
+    // Removes the last n tasks, with their versions; n is bounded by a clause, as above. Most stores squash none: they change nothing.
+    pub fn cut_last(&mut self, n: usize)
+        requires { n ≤ length self.old.order }
+        ensures order { self.new.order ≡ take (length self.old.order - n) self.old.order }
+        ensures table { table_of self.new ≡ without_all (table_of self.old) (drop (length self.old.order - n) self.old.order) }
+    {
+        if n > 0 {
+            let active = self.order.len();
+            self.cut(active - n);
+        }
+    }
+
     // Removes the oldest task, p's, with its versions; that there is one is a clause, as above.
     pub fn retire(&mut self, p: Processor)
         requires { 0 < length self.old.order }
@@ -132,6 +145,15 @@ impl TaskTable for Tasks {
 
     fn held(&self, p: Processor, c: Class) -> Option<u32> {
         self.rows.held(p, c)
+    }
+
+    fn classes(&self, p: Processor) -> ClassSet {
+        self.rows.classes(p)
+    }
+
+    // In place of the trait's, which looks for the row of the address anew for each task.
+    fn sharers(&self, a: u32) -> Sharers {
+        self.rows.sharers(&self.order, a)
     }
 
     // In place of the trait's, which looks for what p holds of the class first: mostly it holds a, and that is found sooner.

@@ -1,7 +1,10 @@
-use Rattle.std.proofs.Common.{◌≡◌, ◌++◌, map, take, drop}
-use Rattle.buffer.specs.Sets.{without_row}
+use Rattle.buffer.specs.Rows.{table_in}
+use Rattle.buffer.proofs.Covering.{ClearedBut}
 use Rattle.buffer.proofs.rows.Rows.clear.Given as goal
 
--- the sets before this one are cleared
-abbrev pub invariant-loop-set : goal.invariant-loop-set
-invariant-loop-set l = l.set-items ≡ map (map (without_row l.p)) (take l.set-index l.initial.set-items) ++ drop l.set-index l.initial.set-items
+-- the sets of the classes that are taken out are cleared
+abbrev pub invariant-loop-c : goal.invariant-loop-c
+invariant-loop-c l = ClearedBut l.left (table_in l.initial.self) l.p (table_in l.self)
+
+abbrev pub decreases-loop-c : goal.decreases-loop-c
+decreases-loop-c l = l.left.bits

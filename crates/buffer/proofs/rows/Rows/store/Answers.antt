@@ -6,6 +6,7 @@ use Rattle.versions.specs.Tables.{with_version}
 use Rattle.buffer.specs.Rows.{table_in}
 use Rattle.buffer.specs.Sets.{no_row, in_row, in_rows, GoodSet, PutInto}
 use Rattle.buffer.proofs.Buffering.{rows-mine, put-table}
+use Rattle.buffer.proofs.Covering.{covered-put}
 use Rattle.buffer.proofs.rows.Rows.store.Goals as goal
 
 pub store-requires : goal.store-requires
@@ -13,7 +14,7 @@ store-requires c =
     let rows = c.args.self.now in
     let a = c.args.a in
     let i = c.index.result in
-    let class = c.index.ensures.value ∙ c.of.ensures in
+    let class = c.index.ensures.value ∙ c.of-class.ensures in
     let here = sym (get_or_default rows.sets i _ [] (omega (arith, rows.good.count, c.index.ensures.bound))) in
     (record {
       good_set = subst (GoodSet (a % 16)) here (subst (λ k. GoodSet k (get_or rows.sets i [])) class (rows.good.each i c.index.ensures.bound));
@@ -27,10 +28,9 @@ invariant_of-self c =
     let i = c.index.result in
     let v = with_store c.args.w (in_rows (get_or rows.sets i []) c.args.p c.args.a) in
     let put = subst (λ (rs : List Row). PutInto rs c.args.p c.args.a (with_store c.args.w (in_rows rs c.args.p c.args.a)) c.store.new.self) (get_or_default rows.sets i _ [] (omega (arith, rows.good.count, c.index.ensures.bound))) c.store.ensures in
-    record {
-      good = (put-table rows.sets _ i put.place c.args.p c.args.a v (c.index.ensures.value ∙ c.of.ensures) rows.good put.bound put.takes
-          (ap (λ (rs : List Row). set rows.sets i rs) put.rows)).1;
-    }
+    let class = c.index.ensures.value ∙ c.of-class.ensures in
+    let law = put-table rows.sets _ i put.place c.args.p c.args.a v class rows.good put.bound put.takes (ap (λ (rs : List Row). set rows.sets i rs) put.rows) in
+    record { good = law.1; covered = covered-put rows.classes rows.sets _ c.index-2.result c.of-class.result c.args.p c.args.a v c.insert.new.self c.index-2.ensures.value c.of-class.ensures put.bound rows.covered law.0 c.insert.ensures }
 
 pub returns : goal.returns
 returns c =
@@ -38,7 +38,7 @@ returns c =
     let i = c.index.result in
     let v = with_store c.args.w (in_rows (get_or rows.sets i []) c.args.p c.args.a) in
     let put = subst (λ (rs : List Row). PutInto rs c.args.p c.args.a (with_store c.args.w (in_rows rs c.args.p c.args.a)) c.store.new.self) (get_or_default rows.sets i _ [] (omega (arith, rows.good.count, c.index.ensures.bound))) c.store.ensures in
-    let class = c.index.ensures.value ∙ c.of.ensures in
+    let class = c.index.ensures.value ∙ c.of-class.ensures in
     (put-table rows.sets _ i put.place c.args.p c.args.a v class rows.good put.bound put.takes
     (ap (λ (rs : List Row). set rows.sets i rs) put.rows)).0
     ∙ ap (λ (d : ℕ). with_version (table_in rows) c.args.p c.args.a (with_store c.args.w (in_rows (get_or rows.sets d []) c.args.p c.args.a))) class
