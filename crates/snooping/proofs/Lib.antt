@@ -1,4 +1,6 @@
 mod Grids
+mod Sweeping
+mod Covering
 mod Linking
 mod Holders
 mod Keeping

@@ -1,18 +1,22 @@
 // The four caches and the order of the active tasks.
 ghost use Rattle.std.specs.Prelude.{◌≡◌, ℕ, false, is_some, slice_index_or};
 ghost use Rattle.versions.specs.Orders.{place_in};
-ghost use Rattle.snooping.specs.Grid.{line_in, Tagged, Wide};
+ghost use Rattle.snooping.specs.Grid.{line_in, Tagged, Wide, Covered};
 
 use crate::cache::Cache;
 use crate::line::Line;
 use crate::state::{LineEvent, LineState};
-use versions::{Class, Order, Processor, TaskTable, Version};
+use versions::{Class, ClassSet, Order, Processor, TaskTable, Version};
 
 #[derive(Drop)]
 pub struct Caches {
     list: [Cache; 4],
+    // Of each processor the classes whose lines may hold something: a line outside of them is as at first. A set may be too large: a line that is
+    // replaced stays in it until its task ends.
+    valid: [ClassSet; 4],
     order: Order,
     ghost wide: { Wide list },
+    ghost covered: { Covered list valid },
     ghost tagged: { Tagged (line_in list) },
 }
 
@@ -34,6 +38,7 @@ impl Caches {
     {
         Caches {
             list: [Cache::new(); 4],
+            valid: [ClassSet::new(); 4],
             order: Order::new(),
         }
     }
@@ -51,6 +56,7 @@ impl Caches {
         ensures order { self.new.order ≡ self.old.order }
     {
         self.list[p.index()].take(event, a, w);
+        self.valid[p.index()].insert(Class::of(a));
     }
 
     // The same, and a's lines are linked anew.
@@ -93,9 +99,10 @@ impl Caches {
         let running = running(&self.order);
         for (p, cache) in self.list.iter_mut().enumerate() {
             if running[p] {
-                cache.unlink(&self.order, &running);
+                cache.unlink(&self.order, &running, self.valid[p]);
             } else {
-                cache.end_all(LineEvent::Squash);
+                cache.end_all(LineEvent::Squash, self.valid[p]);
+                self.valid[p] = ClassSet::new();
             }
         }
     }
@@ -158,7 +165,9 @@ impl Caches {
         ensures order { processors_of self.new ≡ drop 1 (processors_of self.old) }
         ensures lines { lines_in self.new ≡ with_cache (lines_in self.old) p (ended Commit) }
     {
-        self.list[p.index()].end_all(LineEvent::Commit);
+        let i = p.index();
+        self.list[i].end_all(LineEvent::Commit, self.valid[i]);
+        self.valid[i] = ClassSet::new();
         self.order.remove_first();
     }
 }
@@ -182,6 +191,10 @@ impl TaskTable for Caches {
     fn held(&self, p: Processor, c: Class) -> Option<u32> {
         let line = self.line(p, c);
         (line.state != LineState::Invalid).then_some(line.tag)
+    }
+
+    fn classes(&self, p: Processor) -> ClassSet {
+        self.valid[p.index()]
     }
 }
 
