@@ -2,6 +2,7 @@ mod Grids
 mod Sweeping
 mod Covering
 mod Linking
+mod Relinking
 mod Holders
 mod Keeping
 mod Ending

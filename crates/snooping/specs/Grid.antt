@@ -1,5 +1,5 @@
 -- The four caches as a table of lines by processor and line number, and what happens to the table.
-use Rattle.std.specs.Prelude.{◌≡◌, ℕ, ◌%◌, ◌<◌, true, false, cond, ◌&&◌, List, [], ◌∷◌, length, get_or, is_some, Option, ◌==◌, slice_index_or}
+use Rattle.std.specs.Prelude.{◌≡◌, ℕ, suc, ◌%◌, ◌<◌, true, false, cond, ◌&&◌, List, [], ◌∷◌, length, get_or, drop, is_some, Some, Option, ◌==◌, slice_index_or}
 use Rattle.std.specs.List.{find}
 use Rattle.versions.specs.ClassSets.{has}
 use Rattle.versions.specs.declared.class_set.ClassSet.{ClassSet}
@@ -59,6 +59,10 @@ linked ls p a n = cond (is_held (table_by ls p a)) (with_line ls p (a % 16) (wit
 abbrev pub relinked : List ℕ → ℕ → LineTable → LineTable
 relinked [] a ls = ls
 relinked (p ∷ ps) a ls = linked (relinked ps a ls) p a (holder (table_by ls) a ps)
+
+-- they do so already
+abbrev pub Linked : List ℕ → ℕ → LineTable → Type 0
+Linked ps a ls = (q k : ℕ) → place_in ps q ≡ Some k → is_held (table_by ls q a) ≡ true → (ls q (a % 16)).next ≡ holder (table_by ls) a (drop (suc k) ps)
 
 -- the lines of the processors ps alone, without pointers to others
 abbrev pub cut_to : List ℕ → LineTable → LineTable
