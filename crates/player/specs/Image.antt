@@ -4,6 +4,7 @@ use Rattle.std.specs.Prelude.{◌≡◌, ℕ, ◌+◌, ◌*◌, ◌<◌, ◌≤�
 use Rattle.std.proofs.Math.Seq.{paste}
 use Rattle.std.specs.List.{AllByRecursion}
 use Rattle.memory.specs.Bytes.{words_of}
+use Rattle.versions.specs.Conditions.{first_of, answer_unless}
 use Rattle.player.specs.declared.fault.ImageWhy.{ImageWhy}
 use Rattle.player.specs.declared.fault.ImageWhy.TheVariants.{Length, PairCount, PairOrder, PairOutside}
 use Rattle.player.specs.declared.image.Pair.{Pair}
@@ -66,13 +67,8 @@ image_conditions n bytes =
     ∷ (nat_lt (length bytes) (4 + 8 * pair_count bytes), fault_at Length (length bytes))
     ∷ (pair_conditions n 4 0 (pairs_of bytes) ++ (not (length bytes == bytes_counted bytes), fault_at Length (length bytes)) ∷ [])
 
--- the fault of the first condition that holds
-abbrev pub first_fault : List (Bool × ImageFault) → Option ImageFault
-first_fault [] = None
-first_fault (c ∷ cs) = cond c.0 (Some c.1) (first_fault cs)
-
 unfoldable pub image_fault : ℕ → List ℕ → Option ImageFault
-image_fault n bytes = first_fault (image_conditions n bytes)
+image_fault n bytes = first_of (image_conditions n bytes)
 
 -- the words ws after the pairs took their words from vs, one pair after another
 abbrev pub laid_over : List Pair → List ℕ → List ℕ → List ℕ
@@ -80,10 +76,6 @@ laid_over [] vs ws = ws
 laid_over (p ∷ ps) vs ws = laid_over ps (drop p.len vs) (paste ws p.offset vs p.len)
 
 -- loading an image over n words: refused with its fault
-abbrev pub answer_unless : {X : Type 0} → Option ImageFault → X → Result X ImageFault
-answer_unless None x = Ok x
-answer_unless (Some e) x = Err e
-
 abbrev pub load_answer : ℕ → List ℕ → Result (Unit {0}) ImageFault
 load_answer n bytes = answer_unless (image_fault n bytes) tt
 

@@ -4,7 +4,8 @@ ghost use Rattle.std.specs.Prelude.{◌≡◌, ℕ, ◌+◌, ◌*◌, ◌<◌, �
 ghost use Rattle.std.specs.Iterator.{YieldsFirst, item_count};
 ghost use Rattle.std.proofs.Math.Seq.{paste};
 ghost use Rattle.memory.specs.Bytes.{words_of};
-ghost use Rattle.player.specs.Image.{in_pairs, pair_conditions, first_fault, answer_unless, words_taken, pair_end, Inside, laid_over, load_answer, loaded_words, pairs_of, image_words, HoldsPairs, OutsidePairs};
+ghost use Rattle.player.specs.Image.{in_pairs, pair_conditions, words_taken, pair_end, Inside, laid_over, load_answer, loaded_words, pairs_of, image_words, HoldsPairs, OutsidePairs};
+ghost use Rattle.versions.specs.Conditions.{answer_unless, first_of};
 
 use crate::fault::{ImageFault, ImageWhy};
 use memory::Memory;
@@ -59,7 +60,7 @@ fn check_image(n: u32, image: &[u8]) -> Result<(), ImageFault>
 fn check_pairs(n: u32, pairs: &[u8]) -> Result<u64, ImageFault>
     requires count_bound { length pairs.now ≤ 8 * 64 }
     ensures bound { IfOk result (λ words. words ≤ n) }
-    ensures answer { result ≡ answer_unless (first_fault (pair_conditions n 4 0 (in_pairs (words_of pairs.now)))) (words_taken (in_pairs (words_of pairs.now))) }
+    ensures answer { result ≡ answer_unless (first_of (pair_conditions n 4 0 (in_pairs (words_of pairs.now)))) (words_taken (in_pairs (words_of pairs.now))) }
 {
     let mut end: u64 = 0;
     let mut words: u64 = 0;

@@ -8,7 +8,8 @@ use Rattle.versions.specs.declared.turn.Turn.{Turn}
 use Rattle.versions.specs.declared.turn.Turn.TheVariants.{Load, Store, Commit, Replace}
 use Rattle.versions.specs.Cuts.{before, past}
 use Rattle.versions.specs.Orders.{place_in, Apart}
-use Rattle.versions.specs.Plain.{Task, Plain, is_on, refusal_of, given, answer_by, answer_of}
+use Rattle.versions.specs.Plain.{Task, Plain, is_on, refusal_of, given, answer_of}
+use Rattle.versions.specs.Conditions.{answer_unless}
 use Rattle.versions.specs.Tables.{Table, task_by, plain_of, last_own}
 use Rattle.versions.specs.Versions.{is_own, is_held}
 use Rattle.versions.proofs.Tabling.{placed, task_on-is, before-is, past_is, given-commit}
@@ -27,14 +28,14 @@ reported old s t n e = go (refusal_of s t) refl
   where
     go : (o : Option Refusal) → refusal_of s t ≡ o → report_of s t ≡ report_after old s t
     go None f = sym (ap (λ (o : Option Refusal). report_by o old (report_of s t)) f)
-    go (Some x) f = absurd (no_answer n x (e ∙ ap (λ (o : Option Refusal). answer_by o (given s t)) f))
+    go (Some x) f = absurd (no_answer n x (e ∙ ap (λ (o : Option Refusal). answer_unless o (given s t)) f))
 
 pub unreported : (old : BusReport) (s : Plain) (t : Turn) (x : Refusal) → Err x ≡ answer_of s t → old ≡ report_after old s t
 unfolding answer_of report_after
 unreported old s t x e = go (refusal_of s t) refl
   where
     go : (o : Option Refusal) → refusal_of s t ≡ o → old ≡ report_after old s t
-    go None f = absurd (no_answer (given s t) x (sym (ap (λ (o : Option Refusal). answer_by o (given s t)) f) ∙ sym e))
+    go None f = absurd (no_answer (given s t) x (sym (ap (λ (o : Option Refusal). answer_unless o (given s t)) f) ∙ sym e))
     go (Some y) f = sym (ap (λ (o : Option Refusal). report_by o old (report_of s t)) f)
 
 module _ (table : Table) where

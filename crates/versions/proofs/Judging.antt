@@ -9,18 +9,19 @@ use Rattle.versions.specs.declared.turn.Turn.{Turn}
 use Rattle.versions.specs.declared.turn.Turn.TheVariants.{Start, Load, Squash, Commit, Replace}
 use Rattle.versions.specs.Orders.{place_in}
 use Rattle.versions.specs.Versions.{is_held}
-use Rattle.versions.specs.Plain.{Task, Plain, is_on, task_on, is_head, holds_class, refusal_of, given, moved, answer_by, unless_refused, answer_of, state_after}
+use Rattle.versions.specs.Plain.{Task, Plain, is_on, task_on, is_head, holds_class, refusal_of, given, moved, unless_refused, answer_of, state_after}
+use Rattle.versions.specs.Conditions.{answer_unless}
 use Rattle.versions.specs.Tables.{Table, task_by, plain_of, start_place, with_processor, active_place, unless, access_place, squash_place, commit_place, replace_place}
 use Rattle.versions.proofs.Tabling.{placed, any-task_by, task_on-is}
 
 -- a refused turn; an accepted one
 pub refused-turn : (s : Plain) (t : Turn) (e : Refusal) → refusal_of s t ≡ Some e → (Err e ≡ answer_of s t) × (s ≡ state_after s t)
 unfolding answer_of state_after
-refused-turn s t e h = (ap (λ (o : Option Refusal). answer_by o (given s t)) (sym h), ap (λ (o : Option Refusal). unless_refused o s (moved s t)) (sym h))
+refused-turn s t e h = (ap (λ (o : Option Refusal). answer_unless o (given s t)) (sym h), ap (λ (o : Option Refusal). unless_refused o s (moved s t)) (sym h))
 
 pub accepted-turn : (s : Plain) (t : Turn) → refusal_of s t ≡ None → (Ok (given s t) ≡ answer_of s t) × (moved s t ≡ state_after s t)
 unfolding answer_of state_after
-accepted-turn s t h = (ap (λ (o : Option Refusal). answer_by o (given s t)) (sym h), ap (λ (o : Option Refusal). unless_refused o s (moved s t)) (sym h))
+accepted-turn s t h = (ap (λ (o : Option Refusal). answer_unless o (given s t)) (sym h), ap (λ (o : Option Refusal). unless_refused o s (moved s t)) (sym h))
 
 -- the answer of a chain of tests agrees with a list of conditions: refused alike, or accepted
 abbrev pub Agrees : Result ℕ Refusal → Option Refusal → Type 0

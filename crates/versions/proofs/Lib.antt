@@ -13,5 +13,6 @@ pub mod Classes
 pub mod ClassSets
 pub mod Stepping
 pub mod Serving
+pub mod Sharing
 pub mod Mapping
 pub mod Placing

@@ -1,8 +1,6 @@
 -- Going through the tasks in order: the nearest earlier version, and what a task sees.
-use Rattle.std.proofs.Common.{◌≡◌, ℕ, Bool, true, false, cond, List, [], ◌∷◌, ◌++◌, map, reverse, is_some, Some, None, Option, MatchOption, unwrap_or, sym, refl, ap, ◌∙◌}
+use Rattle.std.proofs.Common.{◌≡◌, ℕ, Bool, true, false, cond, List, [], ◌∷◌, map, is_some, Some, None, Option, MatchOption, unwrap_or, sym, refl, ap, ◌∙◌}
 use Rattle.std.specs.Option.{option_or}
-use Rattle.std.specs.List.{find}
-use Rattle.std.proofs.lemmas.List.{reverse-append}
 use Rattle.std.proofs.lemmas.Bool.{true≢false}
 use Rattle.versions.specs.declared.version.Version.{Version}
 use Rattle.versions.specs.Tables.{last_that}
@@ -17,19 +15,6 @@ seen-nearest (v ∷ vs) w = seen-nearest vs (laid_over v w) ∙ go (nearest_own 
     go : (o : Option ℕ) → unwrap_or o (laid_over v w) ≡ unwrap_or (option_or o v.own) w
     go None = refl
     go (Some x) = refl
-
-find_push : (f : ℕ → Bool) (xs : List ℕ) (x : ℕ) → find f (xs ++ x ∷ []) ≡ option_or (find f xs) (cond (f x) (Some x) None)
-find_push f [] x = refl
-find_push f (y ∷ ys) x = go (f y) (find_push f ys x)
-  where
-    go : (t : Bool) → find f (ys ++ x ∷ []) ≡ option_or (find f ys) (cond (f x) (Some x) None) → cond t (Some y) (find f (ys ++ x ∷ [])) ≡ option_or (cond t (Some y) (find f ys)) (cond (f x) (Some x) None)
-    go true e = refl
-    go false e = e
-
--- the first from the back is the last
-pub find-reverse : (f : ℕ → Bool) (xs : List ℕ) → find f (reverse xs) ≡ last_that f xs
-find-reverse f [] = refl
-find-reverse f (x ∷ xs) = ap (find f) (reverse-append (x ∷ []) xs) ∙ (find_push f (reverse xs) x ∙ ap (λ (o : Option ℕ). option_or o (cond (f x) (Some x) None)) (find-reverse f xs))
 
 -- it passes the test
 last-passes : (f : ℕ → Bool) (xs : List ℕ) (q : ℕ) → last_that f xs ≡ Some q → f q ≡ true

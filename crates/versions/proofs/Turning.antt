@@ -10,7 +10,8 @@ use Rattle.versions.specs.declared.turn.Turn.TheVariants.{Start, Load, Store, Sq
 use Rattle.versions.specs.Cuts.{before, up_to, past, changed, but_last}
 use Rattle.versions.specs.declared.version.Version.{Version}
 use Rattle.versions.specs.Versions.{no_version, with_load, with_store, seen_by, squashed_by}
-use Rattle.versions.specs.Plain.{Task, Plain, fresh, is_on, changed_at, column, task_on, is_head, conditions, first_of, refusal_of, given, moved, answer_by, unless_refused, answer_of, state_after}
+use Rattle.versions.specs.Plain.{Task, Plain, fresh, is_on, changed_at, column, task_on, is_head, conditions, refusal_of, given, moved, unless_refused, answer_of, state_after}
+use Rattle.versions.specs.Conditions.{answer_unless, first_of}
 use Rattle.versions.specs.Book.{loaded, stored, replaced, Entry, Book, is_task_of, with_access, as_committed, accepted, fed_one, all_accesses, after_run}
 use Rattle.versions.specs.Sequential.{ExactSquash}
 use Rattle.versions.proofs.Cutting.{found, any-++, before_at, up_to-at, past-at, changed-at, but_last-at, but_last-map}
@@ -255,7 +256,7 @@ pub turn-together : (ws : List ℕ) (b : Book) (s : Plain) (t : Turn) → Togeth
 unfolding answer_of state_after
 turn-together ws b s t i = go (refusal_of s t) refl
   where
-    go : (o : Option Refusal) → refusal_of s t ≡ o → Together ws (fed_one b t (answer_by o (given s t))) (unless_refused o s (moved s t))
+    go : (o : Option Refusal) → refusal_of s t ≡ o → Together ws (fed_one b t (answer_unless o (given s t))) (unless_refused o s (moved s t))
     go None h = accepted-together ws b s t i (passed (conditions s t) h)
     go (Some r) h = i
 
@@ -264,7 +265,7 @@ pub answered-exact : (ws : List ℕ) (b : Book) (s : Plain) (p a w n : ℕ) → 
 unfolding answer_of
 answered-exact ws b s p a w n i e = go (refusal_of s (Store p a w)) refl e
   where
-    go : (o : Option Refusal) → refusal_of s (Store p a w) ≡ o → Ok n ≡ answer_by o (given s (Store p a w)) → ExactSquash a (past (is_task_of p) b) n
+    go : (o : Option Refusal) → refusal_of s (Store p a w) ≡ o → Ok n ≡ answer_unless o (given s (Store p a w)) → ExactSquash a (past (is_task_of p) b) n
     go None h e =
         let c = passed (conditions s (Store p a w)) h in
         let same : n ≡ given s (Store p a w) = cc in

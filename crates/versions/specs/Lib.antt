@@ -1,6 +1,7 @@
 pub mod Turns
 pub mod Refusals
 pub mod Cuts
+pub mod Conditions
 pub mod Processors
 pub mod ClassSets
 pub mod Orders

@@ -7,6 +7,7 @@ use Rattle.versions.specs.declared.refusal.Refusal.TheVariants.{NoProcessor, Tas
 use Rattle.versions.specs.declared.turn.Turn.{Turn}
 use Rattle.versions.specs.declared.turn.Turn.TheVariants.{Start, Load, Store, Squash, Commit, Replace}
 use Rattle.versions.specs.Refusals.{refusal_number}
+use Rattle.versions.specs.Conditions.{first_of, answer_unless}
 use Rattle.versions.specs.Cuts.{before, up_to, past, changed, but_last, any_below}
 use Rattle.versions.specs.declared.version.Version.{Version}
 use Rattle.versions.specs.Versions.{no_version, is_own, is_held, with_load, with_store, laid_over, seen_by, squashed_by}
@@ -88,11 +89,6 @@ conditions s (Replace p a) =
     (nat_le 4 p, NoProcessor) ∷ (not (list_any (is_on p) s.order), NoTask) ∷ (nat_le (length s.memory) a, NoAddress)
     ∷ (not (is_head p s.order), NotHead) ∷ (not (is_held ((task_on p s.order).at a)), NotHeld) ∷ []
 
--- the refusal of the first condition that holds
-abbrev pub first_of : List (Bool × Refusal) → Option Refusal
-first_of [] = None
-first_of (c ∷ cs) = cond c.0 (Some c.1) (first_of cs)
-
 -- the numbers of a list of conditions rise, from above n
 abbrev pub Rising : ℕ → List (Bool × Refusal) → Type 0
 Rising n [] = Unit {0}
@@ -129,16 +125,12 @@ moved s (Replace p a) =
     }
 
 -- the answer to a turn, and the store after it: a refused turn changes nothing
-abbrev pub answer_by : Option Refusal → ℕ → Result ℕ Refusal
-answer_by None n = Ok n
-answer_by (Some r) n = Err r
-
 abbrev pub unless_refused : Option Refusal → Plain → Plain → Plain
 unless_refused None s later = later
 unless_refused (Some r) s later = s
 
 unfoldable pub answer_of : Plain → Turn → Result ℕ Refusal
-answer_of s t = answer_by (refusal_of s t) (given s t)
+answer_of s t = answer_unless (refusal_of s t) (given s t)
 
 unfoldable pub state_after : Plain → Turn → Plain
 state_after s t = unless_refused (refusal_of s t) s (moved s t)

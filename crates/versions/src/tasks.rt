@@ -4,12 +4,14 @@ ghost use Rattle.std.specs.Prelude.{◌≡◌, ℕ, ◌<◌, ◌≤◌, false, L
 ghost use Rattle.versions.specs.ClassSets.{has};
 ghost use Rattle.versions.specs.Plain.{holds_class};
 ghost use Rattle.versions.specs.Tables.{Table, task_by, Fitting, HeldIn, last_that, with_processor, start_place, active_place, access_place, squash_place, commit_place, replace_place};
+ghost use Rattle.versions.specs.Sharers.{SharersIn};
 ghost use Rattle.versions.specs.Versions.{is_own, squashed_by};
 
 use crate::class_set::ClassSet;
 use crate::order::Order;
 use crate::processor::{Class, Processor};
 use crate::refusal::Refusal;
+use crate::sharers::Sharers;
 use crate::version::Version;
 
 pub trait TaskTable {
@@ -42,36 +44,40 @@ pub trait TaskTable {
         self.held(p, Class::of(a)).is_some_and(|b| b != a)
     }
 
-    // The nearest version of a: of the k oldest tasks, the processor of the last that has an own word there. k is bounded by the
-    // order, so by a clause: a type for it would be no plainer.
-    fn nearest(&self, k: usize, a: u32) -> Option<Processor>
-        requires { k ≤ length (processors self.now) }
-        ensures { result ≡ last_that (λ q. is_own (table self.now q a)) (take k (processors self.now)) }
+    // The sharers of a. All tasks are asked, as what is sought of them may lie at any place.
+    fn sharers(&self, a: u32) -> Sharers
+        ensures address { result.address ≡ a }
+        ensures tasks { SharersIn (processors self.now) (table self.now) result }
     {
-        self.order().processors()[..k]
-            .iter()
-            .rev()
-            .copied()
-            .find(|p| self.version(*p, a).own.is_some())
+        let mut sharers = Sharers::new(a);
+        for (k, p) in self.order().processors().iter().enumerate() {
+            sharers.add(k, self.version(*p, a));
+        }
+        sharers
     }
 
-    // How many of the tasks from place k on a store to a squashes: the oldest with a mark that no own word of a task
-    // between hides, and all after it. k is bounded by a clause, as above.
-    fn squashed(&self, k: usize, a: u32) -> usize
-        requires { k ≤ length (processors self.now) }
-        ensures { result ≡ squashed_by (map (λ q. table self.now q a) (drop k (processors self.now))) }
+    // The nearest version of the sharers' address: of the k oldest tasks, the processor of the last that has an own word there. k is
+    // bounded by the order, so by a clause: a type for it would be no plainer. So it is with whose sharers they are, here and below.
+    fn nearest(&self, k: usize, sharers: Sharers) -> Option<Processor>
+        requires bound { k ≤ length (processors self.now) }
+        requires sharers { SharersIn (processors self.now) (table self.now) sharers }
+        ensures { result ≡ last_that (λ q. is_own (table self.now q sharers.address)) (take k (processors self.now)) }
     {
-        let later = &self.order().processors()[k..];
-        for (i, p) in later.iter().enumerate() {
-            let version = self.version(*p, a);
-            if version.mark {
-                return later.len() - i;
-            }
-            if version.own.is_some() {
-                return 0;
-            }
+        let place = sharers.owner_before(k)?;
+        Some(self.order().at(place))
+    }
+
+    // How many of the tasks from place k on a store to the sharers' address squashes: the oldest with a mark that no own word of a task
+    // between hides, and all after it.
+    fn squashed(&self, k: usize, sharers: Sharers) -> usize
+        requires bound { k ≤ length (processors self.now) }
+        requires sharers { SharersIn (processors self.now) (table self.now) sharers }
+        ensures { result ≡ squashed_by (map (λ q. table self.now q sharers.address) (drop k (processors self.now))) }
+    {
+        match sharers.squashed_from(k) {
+            Some(place) => self.order().len() - place,
+            None => 0,
         }
-        0
     }
 
     // Each of the calls below gives the processor p and a place in the order, or the refusal: all the same pair, whether its caller

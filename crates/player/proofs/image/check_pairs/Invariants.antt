@@ -1,6 +1,7 @@
 use Rattle.std.proofs.Common.{◌≡◌, ◌+◌, ◌*◌, ◌≤◌, length}
 use Rattle.memory.specs.Bytes.{words_of}
-use Rattle.player.specs.Image.{in_pairs, pair_conditions, first_fault, words_taken}
+use Rattle.player.specs.Image.{in_pairs, pair_conditions, words_taken}
+use Rattle.versions.specs.Conditions.{first_of}
 use Rattle.player.proofs.image.check_pairs.Given as goal
 
 -- the pairs before i are in order, and those that are left decide
@@ -11,7 +12,7 @@ invariant-loop-i l =
     let all = in_pairs (words_of l.pairs) in
     record {
       few : i + length left ≤ 64;
-      decided : first_fault (pair_conditions l.n 4 0 all) ≡ first_fault (pair_conditions l.n (4 + 8 * i) l.end left);
+      decided : first_of (pair_conditions l.n 4 0 all) ≡ first_of (pair_conditions l.n (4 + 8 * i) l.end left);
       taken : words_taken all ≡ l.words + words_taken left;
       so_far : l.words ≤ l.end;
       inside : l.end ≤ l.n;
