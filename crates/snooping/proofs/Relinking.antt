@@ -1,23 +1,28 @@
 -- Where the lines of an address are linked already, one more line is linked by two pointers: its own, and that of the line before it.
-use Rattle.std.proofs.Common.{◌≡◌, ℕ, zero, suc, ◌+◌, ◌%◌, ◌<◌, ◌≤◌, Bool, true, false, cond, ◌&&◌, eqb, ◌⊎◌, List, [], ◌∷◌, map, length, get_or, drop, Some, None, Option, sym, refl, ap, ◌∙◌, subst, inl, inr, ⊎_elim, arith}
+use Rattle.std.proofs.Common.{◌≡◌, ℕ, zero, suc, ◌%◌, ◌<◌, ◌≤◌, Bool, true, false, cond, ◌&&◌, eqb, ◌⊎◌, List, [], ◌∷◌, get_or, drop, Some, None, Option, sym, refl, ap, ◌∙◌, subst, inl, inr, ⊎_elim, arith}
 use mathlib.Core.Path.{fun_ext}
 use Rattle.std.specs.Option.{option_map}
-use Rattle.std.proofs.lemmas.Bool.{eqb-true, eqb-false, eq-eqb, ne_eqb, cond-true, cond-false, true≢false}
-use Rattle.versions.specs.declared.version.Version.{Version}
+use Rattle.std.proofs.lemmas.Bool.{eqb-true, eqb-false, eq-eqb, ne_eqb, cases_eq, cond-true, cond-false, true≢false}
 use Rattle.versions.specs.Orders.{place_in, Apart}
+use Rattle.versions.specs.Sharers.{FirstFrom, holds_at, versions_of}
 use Rattle.versions.specs.Tables.{Table}
-use Rattle.versions.specs.Versions.{no_version, is_held}
+use Rattle.versions.specs.Versions.{is_held}
 use Rattle.versions.proofs.Fits.{none-drop}
 use Rattle.versions.proofs.Ordering.{none-some}
 use Rattle.snooping.specs.declared.line.Line.{Line}
 use Rattle.snooping.specs.Grid.{LineTable, Linked, table_by, with_line, holder, linked, relinked}
-use Rattle.snooping.specs.Lines.{version_in, version_at, with_next}
+use Rattle.snooping.specs.Lines.{version_at, with_next}
 use Rattle.snooping.proofs.Holders.{holder-same}
-use Rattle.snooping.proofs.Linking.{relinked-table, relinked-other}
+use Rattle.snooping.proofs.Linking.{link-same, relinked-table, relinked-other}
 
 -- whether the processor at place i holds a; none is past the last
 abbrev pub holds : Table → ℕ → List ℕ → ℕ → Bool
-holds table a ps i = is_held (get_or (map (λ q. table q a) ps) i no_version)
+holds table a ps i = holds_at (versions_of table a ps) i
+
+pub holds-at : (t : Table) (a : ℕ) (ps : List ℕ) (i : ℕ) → holds t a ps i ≡ true → is_held (t (get_or ps i 0) a) ≡ true
+holds-at t a [] i at = absurd (true≢false (sym at))
+holds-at t a (p ∷ ps) zero at = at
+holds-at t a (p ∷ ps) (suc i) at = holds-at t a ps i at
 
 -- the first in line, or a later one
 place-split : (x : ℕ) (xs : List ℕ) (p k : ℕ) → place_in (x ∷ xs) p ≡ Some k → ((k ≡ 0) × (x ≡ p)) ⊎ ((j : ℕ) × (k ≡ suc j) × (x ≡ p → ⊥) × (place_in xs p ≡ Some j))
@@ -45,8 +50,8 @@ same-line ls q c y e = fun_ext (λ r. fun_ext (λ d. go r d (eqb r q) (eqb d c) 
     go r d true false s v = refl
     go r d false u s v = refl
 
-link-same : (ls : LineTable) (q a : ℕ) (n : Option ℕ) → n ≡ (ls q (a % 16)).next → linked ls q a n ≡ ls
-link-same ls q a n e = go (is_held (table_by ls q a))
+link-again : (ls : LineTable) (q a : ℕ) (n : Option ℕ) → n ≡ (ls q (a % 16)).next → linked ls q a n ≡ ls
+link-again ls q a n e = go (is_held (table_by ls q a))
   where
     go : (t : Bool) → cond t (with_line ls q (a % 16) (with_next (ls q (a % 16)) n)) ls ≡ ls
     go true = same-line ls q (a % 16) (with_next (ls q (a % 16)) n) (ap (with_next (ls q (a % 16))) e)
@@ -61,24 +66,28 @@ linked-already (p ∷ ps) a ls apart is =
     first = cond-true (eqb p p) (Some 0) (option_map suc (place_in ps p)) (eq-eqb p p refl)
 
     go : (t : Bool) → is_held (table_by ls p a) ≡ t → linked ls p a (holder (table_by ls) a ps) ≡ ls
-    go true h = link-same ls p a (holder (table_by ls) a ps) (sym (is p 0 first h))
+    go true h = link-again ls p a (holder (table_by ls) a ps) (sym (is p 0 first h))
     go false h = ap (λ (t : Bool). cond t (with_line ls p (a % 16) (with_next (ls p (a % 16)) (holder (table_by ls) a ps))) ls) h
 
 -- the first holder from a place on, by its place
-pub holder-none-from : (t : Table) (a : ℕ) (ps : List ℕ) (m : ℕ) → ((i : ℕ) → m ≤ i → holds t a ps i ≡ false) → holder t a (drop m ps) ≡ None
+holder-none-from : (t : Table) (a : ℕ) (ps : List ℕ) (m : ℕ) → ((i : ℕ) → m ≤ i → holds t a ps i ≡ false) → holder t a (drop m ps) ≡ None
 holder-none-from t a [] zero none = refl
 holder-none-from t a [] (suc m) none = refl
 holder-none-from t a (p ∷ ps) zero none =
     ap (λ (u : Bool). cond u (Some p) (holder t a ps)) (none 0 (omega arith)) ∙ holder-none-from t a ps 0 (λ i l. none (suc i) (omega arith))
 holder-none-from t a (p ∷ ps) (suc m) none = holder-none-from t a ps m (λ i l. none (suc i) (omega arith))
 
-pub holder-at-from : (t : Table) (a : ℕ) (ps : List ℕ) (m j : ℕ) → m ≤ j → holds t a ps j ≡ true → ((i : ℕ) → m ≤ i → i < j → holds t a ps i ≡ false) → holder t a (drop m ps) ≡ Some (get_or ps j 0)
+holder-at-from : (t : Table) (a : ℕ) (ps : List ℕ) (m j : ℕ) → m ≤ j → holds t a ps j ≡ true → ((i : ℕ) → m ≤ i → i < j → holds t a ps i ≡ false) → holder t a (drop m ps) ≡ Some (get_or ps j 0)
 holder-at-from t a [] m j le at none = absurd (true≢false (sym at))
 holder-at-from t a (p ∷ ps) zero zero le at none = ap (λ (u : Bool). cond u (Some p) (holder t a ps)) at
 holder-at-from t a (p ∷ ps) zero (suc j) le at none =
     ap (λ (u : Bool). cond u (Some p) (holder t a ps)) (none 0 (omega arith) (omega arith)) ∙ holder-at-from t a ps 0 j (omega arith) at (λ i l h. none (suc i) (omega arith) (omega arith))
 holder-at-from t a (p ∷ ps) (suc m) zero le at none = absurd (omega arith)
 holder-at-from t a (p ∷ ps) (suc m) (suc j) le at none = holder-at-from t a ps m j (omega arith) at (λ i l h. none (suc i) (omega arith) (omega arith))
+
+pub holder-from : (t : Table) (a : ℕ) (ps : List ℕ) (m : ℕ) (o : Option ℕ) → FirstFrom (holds_at (versions_of t a ps)) m o → option_map (λ j. get_or ps j 0) o ≡ holder t a (drop m ps)
+holder-from t a ps m None first = sym (holder-none-from t a ps m first)
+holder-from t a ps m (Some j) first = sym (holder-at-from t a ps m j first.0 first.1 first.2)
 
 -- one line changed to hold a
 module _ (ls : LineTable) (p a : ℕ) (y : Line) (held : is_held (version_at y a) ≡ true) where
@@ -91,7 +100,7 @@ module _ (ls : LineTable) (p a : ℕ) (y : Line) (held : is_held (version_at y a
   now-other : (q d : ℕ) → (q ≡ p → ⊥) → now q d ≡ ls q d
   now-other q d ne = ap (λ (t : Bool). cond (t && eqb d (a % 16)) y (ls q d)) (ne_eqb q p ne)
 
-  now-held : is_held (table_by now p a) ≡ true
+  pub now-held : is_held (table_by now p a) ≡ true
   now-held = ap (λ (x : Line). is_held (version_at x a)) now-here ∙ held
 
   same-held : (q : ℕ) → (q ≡ p → ⊥) → is_held (table_by now q a) ≡ is_held (table_by ls q a)
@@ -132,6 +141,11 @@ module _ (ls : LineTable) (p a : ℕ) (y : Line) (held : is_held (version_at y a
   -- and the pointer of q's line to p
   abbrev pub both_linked : ℕ → Option ℕ → LineTable
   both_linked q n = with_line (own_linked n) q (a % 16) (with_next (own_linked n q (a % 16)) (Some p))
+
+  pub own-held : (n : Option ℕ) (q : ℕ) → is_held (table_by ls q a) ≡ true → is_held (table_by (own_linked n) q a) ≡ true
+  own-held n q h =
+      link-same (λ x. is_held (version_at x a)) (λ x m. refl) now p (a % 16) n q (a % 16)
+      ∙ ⊎_elim (λ (e : q ≡ p). ap (λ (r : ℕ). is_held (table_by now r a)) e ∙ now-held) (λ (ne : q ≡ p → ⊥). same-held q ne ∙ h) (cases_eq q p)
 
   linked-on : (x : ℕ) (xs : List ℕ) (t : Bool) → (x ≡ p → ⊥) → is_held (table_by ls x a) ≡ t
       → relinked (x ∷ xs) a now ≡ cond t (with_line (relinked xs a now) x (a % 16) (with_next (relinked xs a now x (a % 16)) (holder (table_by now) a xs))) (relinked xs a now)
