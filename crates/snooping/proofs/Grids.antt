@@ -17,7 +17,7 @@ get_d_map f (x ∷ xs) zero e = refl
 get_d_map f (x ∷ xs) (suc c) e = get_d_map f xs c e
 
 -- a list with another element
-at_set : {A : Type 0} (xs : List A) (i : ℕ) (x d : A) → i < length xs → (k : ℕ) → get_or (set xs i x) k d ≡ cond (eqb k i) x (get_or xs k d)
+pub at_set : {A : Type 0} (xs : List A) (i : ℕ) (x d : A) → i < length xs → (k : ℕ) → get_or (set xs i x) k d ≡ cond (eqb k i) x (get_or xs k d)
 at_set xs i x d h k = go (eqb k i) refl
   where
     go : (t : Bool) → eqb k i ≡ t → get_or (set xs i x) k d ≡ cond t x (get_or xs k d)
@@ -78,6 +78,9 @@ past-blank cs wide q c h = ap (λ (x : Cache). get_or x.lines c blank) (get_or_p
 -- the caches below p cut to the processors ps
 abbrev pub cut_below : ℕ → List ℕ → LineTable → LineTable
 cut_below p ps ls q d = cond (ltb q p) (cut_to ps ls q d) (ls q d)
+
+pub cut-none : (ps : List ℕ) (ls : LineTable) → ls ≡ cut_below 0 ps ls
+cut-none ps ls = fun_ext (λ q. fun_ext (λ d. sym (cond-false (ltb q 0) (cut_to ps ls q d) (ls q d) (le-ltb q 0 (omega arith)))))
 
 module _ (ps : List ℕ) (ls now : LineTable) (p : ℕ) (so_far : now ≡ cut_below p ps ls) where
   step-at : (f : Line → Line) (q d : ℕ) → ((d : ℕ) → f (ls p d) ≡ cut_to ps ls p d) → (t u : Bool) → eqb q p ≡ t → ltb q p ≡ u

@@ -9,7 +9,7 @@ use Rattle.versions.specs.Orders.{place_in, Apart}
 use Rattle.versions.specs.Tables.{Table, with_version}
 use Rattle.versions.specs.Versions.{no_version, is_held, is_own, seen_by}
 use Rattle.snooping.specs.declared.line.Line.{Line}
-use Rattle.snooping.specs.Grid.{LineTable, table_by, with_line, holder}
+use Rattle.snooping.specs.Grid.{LineTable, Linked, table_by, with_line, holder}
 use Rattle.snooping.specs.Lines.{blank, version_in, version_at, with_next}
 use Rattle.versions.proofs.Classes.{unheld-none}
 use Rattle.versions.proofs.Tabling.{placed}
@@ -41,6 +41,12 @@ shown ls q b held = go (eqb (ls q (b % 16)).tag b) refl held
     go : (t : Bool) → eqb (ls q (b % 16)).tag b ≡ t → is_held (cond t (version_in (ls q (b % 16))) no_version) ≡ true → ((ls q (b % 16)).tag ≡ b) × (is_held (version_in (ls q (b % 16))) ≡ true)
     go true e h = (eqb-true (ls q (b % 16)).tag b e, h)
     go false e h = absurd (true≢false (sym h))
+
+-- so the lines of an address point each to the next
+pub laid-linked : (ws ps : List ℕ) (ls : LineTable) → Laid ws ps ls → (a : ℕ) → Linked ps a ls
+laid-linked ws ps ls x a q k place held =
+    let s = shown ls q a held in
+    x.next q k (a % 16) place s.1 ∙ ap (λ (b : ℕ). holder (table_by ls) b (drop (suc k) ps)) s.0
 
 -- a start
 module _ (ws ps : List ℕ) (ls : LineTable) (x : Laid ws ps ls) (p : ℕ) (idle : (b : ℕ) → table_by ls p b ≡ no_version) where

@@ -1,5 +1,8 @@
 mod Grids
+mod Sweeping
+mod Covering
 mod Linking
+mod Relinking
 mod Holders
 mod Keeping
 mod Ending

@@ -1,8 +1,7 @@
 -- The lines of one address pointed anew, each to the next in task order: what that makes of each line.
-use Rattle.std.proofs.Common.{◌≡◌, ℕ, suc, ◌+◌, ◌-◌, ◌%◌, ◌<◌, ◌≤◌, Bool, true, false, cond, ◌&&◌, eqb, List, [], ◌∷◌, length, get_or, drop, Some, None, Option, sym, refl, ap, ◌∙◌, arith}
+use Rattle.std.proofs.Common.{◌≡◌, ℕ, suc, ◌%◌, Bool, true, false, cond, ◌&&◌, eqb, List, [], ◌∷◌, drop, Some, None, Option, sym, refl, ap, ◌∙◌, arith}
 use mathlib.Core.Path.{fun_ext}
 use Rattle.std.specs.Option.{option_map}
-use Rattle.std.proofs.lemmas.List.{drop_more, drop_all}
 use Rattle.std.proofs.lemmas.Bool.{eqb-true, eqb-false, eq-eqb, cond-true, cond-false, and_left, and_right}
 use Rattle.versions.specs.Orders.{place_in, Apart}
 use Rattle.versions.specs.Tables.{Table}
@@ -14,7 +13,7 @@ use Rattle.snooping.specs.Lines.{version_in, version_at, with_next}
 
 -- what does not look at pointers does not see a link
 module _ {B : Type 0} (F : Line → B) (blind : (x : Line) (n : Option ℕ) → F (with_next x n) ≡ F x) where
-  link-same : (ls : LineTable) (p c : ℕ) (n : Option ℕ) (q d : ℕ) → F (with_line ls p c (with_next (ls p c) n) q d) ≡ F (ls q d)
+  pub link-same : (ls : LineTable) (p c : ℕ) (n : Option ℕ) (q d : ℕ) → F (with_line ls p c (with_next (ls p c) n) q d) ≡ F (ls q d)
   link-same ls p c n q d = go (eqb q p) (eqb d c) refl refl
     where
       go : (t u : Bool) → eqb q p ≡ t → eqb d c ≡ u → F (cond (t && u) (with_next (ls p c) n) (ls q d)) ≡ F (ls q d)
@@ -36,10 +35,9 @@ module _ {B : Type 0} (F : Line → B) (blind : (x : Line) (n : Option ℕ) → 
 pub relinked-table : (ps : List ℕ) (a : ℕ) (ls : LineTable) → table_by (relinked ps a ls) ≡ table_by ls
 relinked-table ps a ls = fun_ext (λ q. fun_ext (λ b. relinked-same (λ x. version_at x b) (λ x n. refl) ps a ls q (b % 16)))
 
--- tags stay in their lines
-pub tagged-relinked : (ps : List ℕ) (a : ℕ) (ls : LineTable) → Tagged ls → Tagged (relinked ps a ls)
-tagged-relinked ps a ls tagged = λ q d held.
-    relinked-same (λ x. x.tag % 16) (λ x n. refl) ps a ls q d ∙ tagged q d (sym (relinked-same (λ x. is_held (version_in x)) (λ x n. refl) ps a ls q d) ∙ held)
+-- tags stay in their lines where one is linked
+pub tagged-link : (ls : LineTable) (p c : ℕ) (n : Option ℕ) → Tagged ls → Tagged (with_line ls p c (with_next (ls p c) n))
+tagged-link ls p c n tagged = λ q d held. link-same (λ x. x.tag % 16) (λ x n. refl) ls p c n q d ∙ tagged q d (sym (link-same (λ x. is_held (version_in x)) (λ x n. refl) ls p c n q d) ∙ held)
 
 linked-other : (ls : LineTable) (p a : ℕ) (n : Option ℕ) (q d : ℕ) → (eqb q p && eqb d (a % 16)) ≡ false → linked ls p a n q d ≡ ls q d
 linked-other ls p a n q d e = go (is_held (table_by ls p a))
@@ -108,42 +106,3 @@ relinked-held (p ∷ ps) a ls q k apart place has-line = go (eqb p q) refl place
         swap : (t : Bool) → eqb q p ≡ t → (p ≡ q → ⊥) → eqb q p ≡ false
         swap true x ne = absurd (ne (sym (eqb-true q p x)))
         swap false x ne = x
-
--- one task more, from the youngest on
-module _ (ps : List ℕ) (a i : ℕ) (ls now later : LineTable) (next : Option ℕ) (p : ℕ) (h : 0 < i) (le : i ≤ length ps) (so_far : now ≡ relinked (drop i ps) a ls)
-    (next-is : next ≡ holder (table_by ls) a (drop i ps)) (p-is : p ≡ get_or ps (i - 1) p) where
-  split : drop (i - 1) ps ≡ p ∷ drop i ps
-  split =
-      let on : i - 1 + 1 ≡ i = omega arith in
-      drop_more ps (i - 1) p (omega arith) ∙ (ap (λ (r : ℕ). r ∷ drop (i - 1 + 1) ps) (sym p-is) ∙ ap (λ (j : ℕ). p ∷ drop j ps) on)
-
-  same-held : is_held (table_by now p a) ≡ is_held (table_by ls p a)
-  same-held = ap (λ (x : LineTable). is_held (table_by x p a)) so_far ∙ ap (λ (t : Table). is_held (t p a)) (relinked-table (drop i ps) a ls)
-
-  lines-on : relinked (drop (i - 1) ps) a ls ≡ linked now p a next
-  lines-on =
-      ap (λ (l : List ℕ). relinked l a ls) split
-      ∙ (ap (λ (x : LineTable). linked x p a (holder (table_by ls) a (drop i ps))) (sym so_far) ∙ ap (λ (n : Option ℕ). linked now p a n) (sym next-is))
-
-  next-on : holder (table_by ls) a (drop (i - 1) ps) ≡ cond (is_held (table_by now p a)) (Some p) next
-  next-on =
-      ap (holder (table_by ls) a) split
-      ∙ (ap (λ (t : Bool). cond t (Some p) (holder (table_by ls) a (drop i ps))) (sym same-held) ∙ ap (λ (n : Option ℕ). cond (is_held (table_by now p a)) (Some p) n) (sym next-is))
-
-  pub link-held : is_held (table_by now p a) ≡ true → later ≡ with_line now p (a % 16) (with_next (now p (a % 16)) next)
-      → (later ≡ relinked (drop (i - 1) ps) a ls) × (Some p ≡ holder (table_by ls) a (drop (i - 1) ps))
-  link-held held is = (
-    is ∙ sym (lines-on ∙ ap (λ (t : Bool). cond t (with_line now p (a % 16) (with_next (now p (a % 16)) next)) now) held),
-    sym (next-on ∙ ap (λ (t : Bool). cond t (Some p) next) held),
-  )
-
-  pub link-unheld : is_held (table_by now p a) ≡ false → (now ≡ relinked (drop (i - 1) ps) a ls) × (next ≡ holder (table_by ls) a (drop (i - 1) ps))
-  link-unheld none = (
-    sym (lines-on ∙ ap (λ (t : Bool). cond t (with_line now p (a % 16) (with_next (now p (a % 16)) next)) now) none),
-    sym (next-on ∙ ap (λ (t : Bool). cond t (Some p) next) none),
-  )
-
-pub link-none : (ps : List ℕ) (a i : ℕ) (ls : LineTable) → length ps ≤ i → (ls ≡ relinked (drop i ps) a ls) × (None ≡ holder (table_by ls) a (drop i ps))
-link-none ps a i ls h =
-    let e = drop_all i ps h in
-    (sym (ap (λ (l : List ℕ). relinked l a ls) e), sym (ap (holder (table_by ls) a) e))

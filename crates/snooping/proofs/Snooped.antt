@@ -29,7 +29,7 @@ use Rattle.snooping.specs.declared.state.LineState.TheVariants.{Invalid, Loaded,
 use Rattle.snooping.specs.declared.state.LineEvent.TheVariants.{Commit as CommitLine}
 use Rattle.snooping.specs.declared.store.SnoopingStore.{SnoopingStore}
 use Rattle.snooping.specs.Caches.{processors_of}
-use Rattle.snooping.specs.Grid.{LineTable, line_in, Wide, table_by, with_line, with_cache, holder, relinked, cut_to}
+use Rattle.snooping.specs.Grid.{LineTable, Linked, line_in, Wide, table_by, with_line, with_cache, holder, relinked, cut_to}
 use Rattle.versions.specs.Tables.{last_that}
 use Rattle.snooping.specs.Layout.{lines_of}
 use Rattle.snooping.specs.Lines.{blank, version_in, version_at, with_loaded, with_stored, with_next, ended}
@@ -38,7 +38,7 @@ use Rattle.snooping.specs.Snooping.{plain_in, SoundSnooping, Shown, supplied_wor
 use Rattle.snooping.specs.States.{has_s}
 use Rattle.snooping.proofs.Ending.{cut-table, keep-cut, commit-table, keep-commit, replace-table, keep-replace}
 use Rattle.snooping.proofs.Holders.{holder-same, holder-none, same-column, seen-append, seen-owns, hidden-copy, take-place, place-once, place-value}
-use Rattle.snooping.proofs.Keeping.{Laid, shown, shows, keep-start, mid, mid-table, keep-change}
+use Rattle.snooping.proofs.Keeping.{Laid, laid-linked, shown, shows, keep-start, mid, mid-table, keep-change}
 use Rattle.snooping.proofs.Laying.{caches-laid, laid-caches, own-word, some-if, last-seen}
 use Rattle.snooping.proofs.Linking.{relinked-same, relinked-class, relinked-unheld, relinked-held, relinked-table}
 use Rattle.snooping.proofs.Reporting.{reported, unreported, report-load, report-store, report-commit, report-replace}
@@ -461,18 +461,15 @@ module _ {M : Type 0} (words : M → List ℕ) {sound : M → Type 0} (st : Snoo
       (subst (Laid ws₂ ps) (sym New-is) (subst (λ (l : List ℕ). Laid ws₂ l (with_line ls p (a % 16) blank)) (head_first p first) (keep-replace ws p (drop 1 ps) ls laid-head apart-head fits_head a y.4)))
       (report ∙ sym (report-replace ws ps table p k apart y.0 a))))
 
-  -- the pointer of a line for a
-  pointer_is : (q j a : ℕ) → place_in ps q ≡ Some j → is_held (table q a) ≡ true → (ls q (a % 16)).next ≡ holder table a (drop (suc j) ps)
-  pointer_is q j a place held =
-      let s = shown ls q a held in
-      laid.next q j (a % 16) place s.1 ∙ ap (λ (b : ℕ). holder table b (drop (suc j) ps)) s.0
+  pub sound-linked : (a : ℕ) → Linked ps a ls
+  sound-linked a = laid-linked ws ps ls laid a
 
   -- whether a store hits, by the line and by the order
   hit-test : (p k a : ℕ) → place_in ps p ≡ Some k → (is_own (table p a) && not (is_some (ls p (a % 16)).next)) ≡ (is_own (table p a) && not (is_some (holder table a (drop (suc k) ps))))
   hit-test p k a place = go (is_own (table p a)) refl
     where
       go : (t : Bool) → is_own (table p a) ≡ t → (t && not (is_some (ls p (a % 16)).next)) ≡ (t && not (is_some (holder table a (drop (suc k) ps))))
-      go true e = ap (λ (o : Option ℕ). not (is_some o)) (pointer_is p k a place (own_held (table p a) e))
+      go true e = ap (λ (o : Option ℕ). not (is_some o)) (sound-linked a p k place (own_held (table p a) e))
       go false e = refl
 
   pub turn-store-hit : (p a w k : ℕ) (later : List ℕ) (new : List Cache) (now : BusReport) → Ok k ≡ access_place (length ws) ps table p a → is_own (table p a) ≡ true → (ls p (a % 16)).next ≡ None
@@ -489,7 +486,7 @@ module _ {M : Type 0} (words : M → List ℕ) {sound : M → Type 0} (st : Snoo
       let line-held : is_held (version_in line) ≡ true = ap is_held stored ∙ own_held (with_store w (table p a)) refl in
       let m = with_line ls p (a % 16) line in
       let mid-is : table_by m ≡ with_version table p a (version_in line) = mid-table ws ps ls laid apart p k a y.0 line refl line-held free in
-      let nobody : holder table a (drop (suc k) ps) ≡ None = sym (pointer_is p k a y.0 held) ∙ last in
+      let nobody : holder table a (drop (suc k) ps) ≡ None = sym (sound-linked a p k y.0 held) ∙ last in
       let all : length ps - 0 ≡ length ps = omega arith in
       subst (λ (l : List ℕ). Turned state (Store p a w) old (Ok 0) ws l new now) (sym order)
       (turned state (Store p a w) old 0 ws ps new (with_version table p a (with_store w (table p a))) now
@@ -499,7 +496,7 @@ module _ {M : Type 0} (words : M → List ℕ) {sound : M → Type 0} (st : Snoo
       (subst (Laid ws ps) (sym New-is)
       (keep-change ws ps ls laid apart p k a y.0 line refl line-held free m
       (λ q c. refl) (λ q c h f. refl) (λ q c n. refl)
-      (λ q j place on. same_next q line refl ∙ (pointer_is q j a place (was-held q line mid-is line-held held on) ∙ sym (holder-same (table_by m) table a (drop (suc j) ps) (λ r i e. both-held r line mid-is line-held held))))
+      (λ q j place on. same_next q line refl ∙ (sound-linked a q j place (was-held q line mid-is line-held held on) ∙ sym (holder-same (table_by m) table a (drop (suc j) ps) (λ r i e. both-held r line mid-is line-held held))))
       (λ copy. absurd (true≢false (ap is_own (sym stored) ∙ copy)))
       (λ q j place after on copy. let i = place-past ps q k j place after in absurd (true≢false (sym on ∙ holder-none table a (drop (suc k) ps) nobody q i.0 i.1)))))
       (report ∙ sym (report-store ws ps table p k apart y.0 a w

@@ -1,7 +1,7 @@
 -- Going through the tasks in order: the nearest earlier version, and whom invalidations reach.
-use Rattle.std.proofs.Common.{◌≡◌, ℕ, ◌+◌, ◌-◌, ◌*◌, ◌%◌, ◌^◌, ◌<◌, ◌≤◌, Bool, true, false, cond, not, ◌&&◌, ◌||◌, List, [], ◌∷◌, length, get_or, reverse, drop, sym, refl, ap, ◌∙◌, arith}
+use Rattle.std.proofs.Common.{◌≡◌, ℕ, ◌+◌, ◌*◌, ◌%◌, ◌^◌, ◌<◌, ◌≤◌, Bool, true, false, cond, not, ◌&&◌, ◌||◌, List, [], ◌∷◌, length, get_or, drop, sym, refl, ap, ◌∙◌, arith}
 use mir.Val.{bool_byte}
-use Rattle.std.proofs.lemmas.List.{drop_more, length-reverse, get_or-reverse}
+use Rattle.std.proofs.lemmas.List.{drop_more}
 use Rattle.std.proofs.Math.Pow.{pow_mono}
 use Rattle.versions.specs.declared.version.Version.{Version}
 use Rattle.versions.specs.Versions.{is_own}
@@ -36,10 +36,3 @@ reach-on f xs i mask p on h p-is so_far = go on so_far
 pub bit : (t : Bool) (p : ℕ) → p < 4 → (bool_byte t * 2 ^ p % 2 ^ 32 ≡ cond t (2 ^ p) 0) × (cond t (2 ^ p) 0 ≤ 8)
 bit true p h = let low = pow_mono {i = p} {j = 3} (omega arith) in (omega (arith, low), omega (arith, low))
 bit false p h = (omega arith, omega arith)
-
--- the processor that is k-th from the back
-pub from_back : (ps : List ℕ) (k p : ℕ) → k < length (reverse ps) → p ≡ get_or (reverse ps) k p → p ≡ get_or ps (length ps - k - 1) p
-from_back ps k p h e =
-    let inside : k < length ps = omega (arith, length-reverse ps) in
-    let same : length ps - 1 - k ≡ length ps - k - 1 = omega arith in
-    e ∙ (get_or-reverse ps k p inside ∙ ap (λ (j : ℕ). get_or ps j p) same)

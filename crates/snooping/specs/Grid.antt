@@ -1,6 +1,8 @@
 -- The four caches as a table of lines by processor and line number, and what happens to the table.
-use Rattle.std.specs.Prelude.{◌≡◌, ℕ, ◌%◌, ◌<◌, true, cond, ◌&&◌, List, [], ◌∷◌, length, get_or, is_some, Option, ◌==◌, slice_index_or}
+use Rattle.std.specs.Prelude.{◌≡◌, ℕ, suc, ◌%◌, ◌<◌, true, false, cond, ◌&&◌, List, [], ◌∷◌, length, get_or, drop, is_some, Some, Option, ◌==◌, slice_index_or}
 use Rattle.std.specs.List.{find}
+use Rattle.versions.specs.ClassSets.{has}
+use Rattle.versions.specs.declared.class_set.ClassSet.{ClassSet}
 use Rattle.versions.specs.Orders.{place_in}
 use Rattle.versions.specs.Tables.{Table}
 use Rattle.versions.specs.Versions.{is_held}
@@ -22,6 +24,14 @@ line_in cs q c = slice_index_or (get_or cs q no_cache).lines c blank
 pub record Wide (cs : List Cache) : Type 0 where
   pub caches : length cs ≡ 4
   pub lines : (q : ℕ) → q < 4 → length (get_or cs q no_cache).lines ≡ 16
+
+abbrev pub no_class : ClassSet
+no_class = record { bits = 0 }
+
+-- four sets of classes: each processor's lines of other classes are blank
+pub record Covered (cs : List Cache) (sets : List ClassSet) : Type 0 where
+  pub long : length sets ≡ 4
+  pub outside : (q c : ℕ) → q < 4 → c < 16 → has (get_or sets q no_class) c ≡ false → line_in cs q c ≡ blank
 
 -- the versions that the lines hold
 abbrev pub table_by : LineTable → Table
@@ -49,6 +59,10 @@ linked ls p a n = cond (is_held (table_by ls p a)) (with_line ls p (a % 16) (wit
 abbrev pub relinked : List ℕ → ℕ → LineTable → LineTable
 relinked [] a ls = ls
 relinked (p ∷ ps) a ls = linked (relinked ps a ls) p a (holder (table_by ls) a ps)
+
+-- they do so already
+abbrev pub Linked : List ℕ → ℕ → LineTable → Type 0
+Linked ps a ls = (q k : ℕ) → place_in ps q ≡ Some k → is_held (table_by ls q a) ≡ true → (ls q (a % 16)).next ≡ holder (table_by ls) a (drop (suc k) ps)
 
 -- the lines of the processors ps alone, without pointers to others
 abbrev pub cut_to : List ℕ → LineTable → LineTable

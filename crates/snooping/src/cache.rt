@@ -1,11 +1,12 @@
 // One processor's cache: a line for each class of addresses.
-ghost use Rattle.std.specs.Prelude.{◌≡◌, ℕ, ◌%◌, false, map, is_some, replicate, slice_index_or, slice_set};
+ghost use Rattle.std.specs.Prelude.{◌≡◌, ℕ, ◌%◌, ◌<◌, false, map, length, is_some, replicate, slice_index_or, slice_set};
+ghost use Rattle.versions.specs.ClassSets.{has};
 ghost use Rattle.versions.specs.Orders.{place_in};
 ghost use Rattle.snooping.specs.Lines.{blank, version_at, with_taken, with_next, ended, unlinked};
 
 use crate::line::Line;
 use crate::state::LineEvent;
-use versions::{Class, Order, Version};
+use versions::{Class, ClassSet, Order, Version};
 
 // It is copied only where four of them are made.
 #[derive(Clone, Copy)]
@@ -61,21 +62,31 @@ impl Cache {
         line.end(event);
     }
 
-    // Ends what all lines hold.
-    pub fn end_all(&mut self, event: LineEvent)
+    // Ends what all lines hold. Those outside of `valid` hold nothing and are left alone, so the event must leave such a line as it is. That all
+    // sixteen are there, here and below, is a clause because the array behind a reference tells it to no proof.
+    pub fn end_all(&mut self, event: LineEvent, valid: ClassSet)
+        requires full { length self.old.lines ≡ 16 }
+        requires ends { ended event blank ≡ blank }
+        requires outside { (c : ℕ) → c < 16 → has valid c ≡ false → slice_index_or self.old.lines c blank ≡ blank }
         ensures { self.new.lines ≡ map (ended event) self.old.lines }
     {
-        for line in self.lines.iter_mut() {
+        let mut left = valid;
+        while let Some(c) = left.take_lowest() {
+            let line = &mut self.lines[c.index()];
             line.end(event);
         }
     }
 
-    // Ends pointers to processors without a task.
-    pub fn unlink(&mut self, order: &Order, running: &[bool])
-        requires { (q : ℕ) → slice_index_or running.now q false ≡ is_some (place_in order.now q) }
+    // Ends pointers to processors without a task; the lines outside of `valid` have none.
+    pub fn unlink(&mut self, order: &Order, running: &[bool], valid: ClassSet)
+        requires full { length self.old.lines ≡ 16 }
+        requires running { (q : ℕ) → slice_index_or running.now q false ≡ is_some (place_in order.now q) }
+        requires outside { (c : ℕ) → c < 16 → has valid c ≡ false → slice_index_or self.old.lines c blank ≡ blank }
         ensures { self.new.lines ≡ map (unlinked order.now) self.old.lines }
     {
-        for line in self.lines.iter_mut() {
+        let mut left = valid;
+        while let Some(c) = left.take_lowest() {
+            let line = &mut self.lines[c.index()];
             line.unlink(order, running);
         }
     }

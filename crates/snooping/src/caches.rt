@@ -1,30 +1,35 @@
 // The four caches and the order of the active tasks.
 ghost use Rattle.std.specs.Prelude.{◌≡◌, ℕ, false, is_some, slice_index_or};
 ghost use Rattle.versions.specs.Orders.{place_in};
-ghost use Rattle.snooping.specs.Grid.{line_in, Tagged, Wide};
+ghost use Rattle.snooping.specs.Grid.{line_in, Tagged, Wide, Covered};
 
 use crate::cache::Cache;
 use crate::line::Line;
 use crate::state::{LineEvent, LineState};
-use versions::{Class, Order, Processor, TaskTable, Version};
+use versions::{Class, ClassSet, Order, Processor, Sharers, TaskTable, Version};
 
 #[derive(Drop)]
 pub struct Caches {
     list: [Cache; 4],
+    // Of each processor the classes whose lines may hold something: a line outside of them is as at first. A set may be too large: a line that is
+    // replaced stays in it until its task ends.
+    valid: [ClassSet; 4],
     order: Order,
     ghost wide: { Wide list },
+    ghost covered: { Covered list valid },
     ghost tagged: { Tagged (line_in list) },
 }
 
 impl Caches {
-    ghost use Rattle.std.specs.Prelude.{◌≡◌, ℕ, ◌-◌, ◌%◌, ◌<◌, ◌≤◌, [], ◌∷◌, ◌++◌, length, take, drop, None};
-    ghost use Rattle.versions.specs.Orders.{place_in};
-    ghost use Rattle.versions.specs.Versions.{is_own};
+    ghost use Rattle.std.specs.Prelude.{◌≡◌, ℕ, ◌-◌, ◌%◌, ◌<◌, ◌≤◌, [], ◌∷◌, ◌++◌, length, take, drop, true, Some, None};
+    ghost use Rattle.versions.specs.Orders.{place_in, Apart};
+    ghost use Rattle.versions.specs.Versions.{is_own, is_held};
     ghost use Rattle.snooping.specs.declared.state.LineEvent.TheVariants.{Commit};
     ghost use Rattle.snooping.specs.Caches.{lines_in, table_of, processors_of};
-    ghost use Rattle.snooping.specs.Grid.{with_line, with_cache, relinked, cut_to};
+    ghost use Rattle.snooping.specs.Grid.{with_line, with_cache, holder, Linked, relinked, cut_to};
+    ghost use Rattle.versions.specs.Sharers.{SharersIn};
     ghost use Rattle.versions.specs.Tables.{last_that};
-    ghost use Rattle.snooping.specs.Lines.{blank, with_taken, ended};
+    ghost use Rattle.snooping.specs.Lines.{blank, version_in, with_taken, with_next, ended};
     ghost use Rattle.snooping.specs.Report.{reached, powers};
 
     // No task is active, and all lines are invalid.
@@ -34,6 +39,7 @@ impl Caches {
     {
         Caches {
             list: [Cache::new(); 4],
+            valid: [ClassSet::new(); 4],
             order: Order::new(),
         }
     }
@@ -51,30 +57,56 @@ impl Caches {
         ensures order { self.new.order ≡ self.old.order }
     {
         self.list[p.index()].take(event, a, w);
+        self.valid[p.index()].insert(Class::of(a));
     }
 
-    // The same, and a's lines are linked anew.
-    pub fn take_and_relink(&mut self, p: Processor, event: LineEvent, a: u32, w: u32)
+    // The same, and a's lines are linked anew. They are linked already but for this one, so two pointers are written: that of the line itself,
+    // and that of the line before it in task order. k is p's place, and the sharers are a's: clauses say so, as for the bits of `Sharers`.
+    pub fn take_and_link(
+        &mut self,
+        p: Processor,
+        k: usize,
+        event: LineEvent,
+        a: u32,
+        w: u32,
+        sharers: Sharers,
+    )
+        requires apart { Apart (processors_of self.old) }
+        requires place { place_in (processors_of self.old) p ≡ Some k }
+        requires address { sharers.address ≡ a }
+        requires sharers { SharersIn (processors_of self.old) (table_of self.old) sharers }
+        requires linked { Linked (processors_of self.old) a (lines_in self.old) }
+        requires held { is_held (version_in (with_taken event (lines_in self.old p (a % 16)) a w)) ≡ true }
         ensures lines { lines_in self.new ≡ relinked (processors_of self.old) a (with_line (lines_in self.old) p (a % 16) (with_taken event (lines_in self.old p (a % 16)) a w)) }
         ensures order { self.new.order ≡ self.old.order }
     {
+        let next = self.next_holder(k + 1, sharers);
+        let before = sharers.holder_before(k);
         self.take(p, event, a, w);
-        self.relink(a);
+        self.link(p, a, next);
+        if let Some(place) = before {
+            let q = self.order.at(place);
+            self.link(q, a, Some(p.number()));
+        }
     }
 
-    // Points the lines of address a anew, each to the next one in task order.
-    fn relink(&mut self, a: u32)
-        ensures lines { lines_in self.new ≡ relinked (processors_of self.old) a (lines_in self.old) }
+    // The first task from place k on that holds the sharers' address: its processor's number.
+    fn next_holder(&self, k: usize, sharers: Sharers) -> Option<u32>
+        requires bound { k ≤ 4 }
+        requires sharers { SharersIn (processors_of self.now) (table_of self.now) sharers }
+        ensures { result ≡ holder (table_of self.now) sharers.address (drop k (processors_of self.now)) }
+    {
+        let place = sharers.holder_from(k)?;
+        Some(self.order.at(place).number())
+    }
+
+    // Points p's line of a to another processor's line, or to none.
+    fn link(&mut self, p: Processor, a: u32, next: Option<u32>)
+        requires { is_held (table_of self.old p a) ≡ true }
+        ensures lines { lines_in self.new ≡ with_line (lines_in self.old) p (a % 16) (with_next (lines_in self.old p (a % 16)) next) }
         ensures order { self.new.order ≡ self.old.order }
     {
-        let mut next = None;
-        for p in self.order.processors().iter().rev() {
-            let cache = &mut self.list[p.index()];
-            if cache.version(a).is_held() {
-                cache.link(a, next);
-                next = Some(p.number());
-            }
-        }
+        self.list[p.index()].link(a, next);
     }
 
     // Ends what p's line of address a holds, as a replacement does.
@@ -93,9 +125,10 @@ impl Caches {
         let running = running(&self.order);
         for (p, cache) in self.list.iter_mut().enumerate() {
             if running[p] {
-                cache.unlink(&self.order, &running);
+                cache.unlink(&self.order, &running, self.valid[p]);
             } else {
-                cache.end_all(LineEvent::Squash);
+                cache.end_all(LineEvent::Squash, self.valid[p]);
+                self.valid[p] = ClassSet::new();
             }
         }
     }
@@ -158,7 +191,9 @@ impl Caches {
         ensures order { processors_of self.new ≡ drop 1 (processors_of self.old) }
         ensures lines { lines_in self.new ≡ with_cache (lines_in self.old) p (ended Commit) }
     {
-        self.list[p.index()].end_all(LineEvent::Commit);
+        let i = p.index();
+        self.list[i].end_all(LineEvent::Commit, self.valid[i]);
+        self.valid[i] = ClassSet::new();
         self.order.remove_first();
     }
 }
@@ -182,6 +217,10 @@ impl TaskTable for Caches {
     fn held(&self, p: Processor, c: Class) -> Option<u32> {
         let line = self.line(p, c);
         (line.state != LineState::Invalid).then_some(line.tag)
+    }
+
+    fn classes(&self, p: Processor) -> ClassSet {
+        self.valid[p.index()]
     }
 }
 

@@ -31,16 +31,14 @@ impl Line {
         }
     }
 
-    // What the line has of address a: nothing, if it is the line of another.
+    // What the line has of address a: nothing, if it is the line of another. It is found without a branch: whose line it is can't be foreseen.
     pub(crate) fn version(&self, a: u32) -> Version
         ensures { result ≡ version_at self.now a }
     {
-        if self.tag != a {
-            return Version::none();
-        }
+        let same = self.tag == a;
         Version {
-            mark: self.state.has_l(),
-            own: self.state.has_s().then_some(self.word),
+            mark: same & self.state.has_l(),
+            own: (same & self.state.has_s()).then_some(self.word),
         }
     }
 

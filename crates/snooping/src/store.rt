@@ -4,6 +4,7 @@ ghost use Rattle.std.specs.Prelude.{◌≡◌, ◌%◌, ◌<◌, ◌≤◌, fals
 ghost use Rattle.versions.specs.Plain.{word_of};
 ghost use Rattle.versions.specs.Versions.{is_own};
 ghost use Rattle.snooping.specs.Caches.{lines_in, table_of, processors_of};
+ghost use Rattle.versions.specs.Sharers.{SharersIn};
 ghost use Rattle.versions.specs.Tables.{last_that};
 ghost use Rattle.snooping.specs.Report.{quiet, supplied_by};
 ghost use Rattle.snooping.specs.Snooping.{plain_in, SoundSnooping, Shown, line_answer, supplied_word};
@@ -13,7 +14,9 @@ use crate::line::Line;
 use crate::report::{BusReport, Supplier};
 use crate::state::LineEvent;
 use memory::Memory;
-use versions::{Answer, Class, Processor, Refusal, TaskTable, VersionStore, write_back, write_own};
+use versions::{
+    Answer, Class, Processor, Refusal, Sharers, TaskTable, VersionStore, write_back, write_own,
+};
 
 pub struct SnoopingStore<M> {
     memory: M,
@@ -72,6 +75,8 @@ impl<M: Memory> VersionStore for SnoopingStore<M> {
         Ok(active as u32)
     }
 
+    // Loads and stores are put in at their two callers: a call costs a sixth of a turn.
+    #[inline(always)]
     fn load(&mut self, p: u32, a: u32) -> Answer {
         let (p, k) = self.caches.access(self.memory.size(), p, a)?;
         let line = self.caches.line(p, Class::of(a));
@@ -80,12 +85,15 @@ impl<M: Memory> VersionStore for SnoopingStore<M> {
             self.report = BusReport::quiet();
             return Ok(line.word);
         }
-        let (w, supplier) = supplied(&mut self.memory, &self.caches, k, a)?;
-        self.caches.take_and_relink(p, LineEvent::Load, a, w);
+        let sharers = self.caches.sharers(a);
+        let (w, supplier) = supplied(&mut self.memory, &self.caches, k, a, sharers)?;
+        self.caches
+            .take_and_link(p, k, LineEvent::Load, a, w, sharers);
         self.report = BusReport::bus_read(a, supplier);
         Ok(w)
     }
 
+    #[inline(always)]
     fn store(&mut self, p: u32, a: u32, w: u32) -> Answer {
         let (p, k) = self.caches.access(self.memory.size(), p, a)?;
         let line = self.caches.line(p, Class::of(a));
@@ -97,9 +105,17 @@ impl<M: Memory> VersionStore for SnoopingStore<M> {
         // The invalidations go out before the tasks that they squash are gone.
         let later = k + 1;
         let mask = self.caches.invalidated(later, a);
-        let hit = self.caches.squashed(later, a);
+        let sharers = self.caches.sharers(a);
+        let hit = self.caches.squashed(later, sharers);
         self.caches.cut_last(hit);
-        self.caches.take_and_relink(p, LineEvent::Store, a, w);
+        // Of those whose tasks are gone nothing may be linked, so then they are asked again.
+        let left = if hit > 0 {
+            self.caches.sharers(a)
+        } else {
+            sharers
+        };
+        self.caches
+            .take_and_link(p, k, LineEvent::Store, a, w, left);
         self.report = BusReport::bus_write(a, mask);
         Ok(hit as u32)
     }
@@ -169,8 +185,11 @@ fn supplied<M: Memory>(
     caches: &Caches,
     k: usize,
     a: u32,
+    sharers: Sharers,
 ) -> Result<(u32, Supplier), Refusal>
     requires sound { M.Memory.sound memory.old }
+    requires address { sharers.address ≡ a }
+    requires sharers { SharersIn (processors_of caches.now) (table_of caches.now) sharers }
     requires k_in_bounds { k ≤ length (processors_of caches.now) }
     requires a_in_bounds { a < length (M.Memory.words memory.old) }
     ensures answer { let nearest = last_that (λ q. is_own (table_of caches.now q a)) (take k (processors_of caches.now)) in result ≡ Ok (supplied_word (lines_in caches.now) (a % 16) (slice_index (M.Memory.words memory.old) a) nearest, supplied_by nearest) }
@@ -178,7 +197,7 @@ fn supplied<M: Memory>(
     ensures beside { M.Memory.spare memory.new ≡ M.Memory.spare memory.old }
     ensures kept { M.Memory.sound memory.new }
 {
-    match caches.nearest(k, a) {
+    match caches.nearest(k, sharers) {
         Some(q) => {
             let word = caches.line(q, Class::of(a)).word;
             Ok((word, Supplier::Processor { p: q.number() }))

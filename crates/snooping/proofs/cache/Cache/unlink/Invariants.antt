@@ -1,7 +1,10 @@
-use Rattle.std.proofs.Common.{◌≡◌, ◌++◌, map, take, drop}
 use Rattle.snooping.specs.Lines.{unlinked}
+use Rattle.snooping.proofs.Sweeping.{Swept}
 use Rattle.snooping.proofs.cache.Cache.unlink.Given as goal
 
--- the lines so far are unlinked
-abbrev pub invariant-loop-line : goal.invariant-loop-line
-invariant-loop-line l = l.line-items ≡ map (unlinked l.order) (take l.line-index l.fn.self.lines) ++ drop l.line-index l.fn.self.lines
+-- the lines of the classes that were taken out are unlinked
+abbrev pub invariant-loop-c : goal.invariant-loop-c
+invariant-loop-c l = Swept (unlinked l.order) l.left l.fn.self.lines l.self.lines
+
+abbrev pub decreases-loop-c : goal.decreases-loop-c
+decreases-loop-c l = l.left.bits

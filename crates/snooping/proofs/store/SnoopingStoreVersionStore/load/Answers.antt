@@ -13,7 +13,7 @@ use Rattle.versions.specs.Tables.{last_that}
 use Rattle.snooping.specs.Lines.{version_at}
 use Rattle.snooping.specs.Report.{bus_read, supplied_by}
 use Rattle.snooping.specs.Snooping.{supplied_word}
-use Rattle.snooping.proofs.Snooped.{took, took-refused, turn-load-hit, turn-load-miss}
+use Rattle.snooping.proofs.Snooped.{took, took-refused, sound-linked, turn-load-hit, turn-load-miss}
 use Rattle.snooping.proofs.store.SnoopingStoreVersionStore.load.Goals as goal
 
 same_pair : (x y : ℕ × Supplier) → ◌≡◌ {A = Result (ℕ × Supplier) Refusal} (Ok x) (Ok y) → x ≡ y
@@ -46,6 +46,9 @@ supplied-requires-clause-k_in_bounds g c =
     let at = at-processor c.args.p c.in_ok-p.p c.in_ok-p.k (λ (p : ℕ). access_place c.size.result ps (table_of s.caches) p c.args.a) c.in_ok-p.ensures in
     omega (arith, (placed ps c.in_ok-p.p c.in_ok-p.k (ok-access c.size.result ps (table_of s.caches) c.in_ok-p.p c.args.a c.in_ok-p.k at.1).0).within)
 
+pub take_and_link-requires-clause-linked : goal.take_and_link-requires-clause-linked
+take_and_link-requires-clause-linked g c = sound-linked g.M.Memory.words c.args.self.now c.requires c.args.a
+
 pub returns : goal.returns
 returns g c =
     let m = g.M.Memory in
@@ -59,8 +62,8 @@ returns g c =
     let given : (w, c.in_ok-w.supplier) ≡ (supplied_word (lines_in s.caches) (a % 16) (get_or (m.words s.memory) a 0) nearest, supplied_by nearest) = same_pair _ _ c.in_ok-w.ensures.answer in
     took m.words m.sound m.spare s (λ (p : ℕ). Load p a) c.args.p c.in_ok-p.p w _ at.0
     (turn-load-miss m.words s c.requires c.in_ok-p.p a c.in_ok-p.k w nearest
-    (m.words c.supplied.new.memory) (processors_of c.take_and_relink.new.self) c.take_and_relink.new.self.list c.bus_read-self.result
+    (m.words c.supplied.new.memory) (processors_of c.take_and_link.new.self) c.take_and_link.new.self.list c.bus_read-self.result
     (at.1 ∙ ap (λ (n : ℕ). access_place n (processors_of s.caches) (table_of s.caches) c.in_ok-p.p c.args.a) c.size.ensures)
-    (ap is_held (sym version) ∙ (sym c.is_held.ensures ∙ c.if-is_held.false)) refl (ap (λ (x : ℕ × Supplier). x.0) given) c.supplied.ensures.words c.take_and_relink.ensures.order
-    c.take_and_relink.ensures.lines c.take_and_relink.new.self.wide
+    (ap is_held (sym version) ∙ (sym c.is_held.ensures ∙ c.if-is_held.false)) refl (ap (λ (x : ℕ × Supplier). x.0) given) c.supplied.ensures.words c.take_and_link.ensures.order
+    c.take_and_link.ensures.lines c.take_and_link.new.self.wide
     (c.bus_read-self.ensures ∙ ap (λ (x : ℕ × Supplier). bus_read a x.1) given)) c.supplied.ensures.kept c.supplied.ensures.beside

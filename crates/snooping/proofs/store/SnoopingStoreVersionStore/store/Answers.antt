@@ -1,19 +1,28 @@
-use Rattle.std.proofs.Common.{◌≡◌, ℕ, suc, ◌%◌, true, false, not, ◌&&◌, List, length, drop, is_some, Err, sym, refl, ap, ◌∙◌, add-one, arith}
+use Rattle.std.proofs.Common.{◌≡◌, ℕ, suc, ◌+◌, ◌-◌, map, take, subst, ◌%◌, true, false, not, ◌&&◌, List, length, drop, is_some, Err, sym, refl, ap, ◌∙◌, add-one, arith}
 use Rattle.std.proofs.lemmas.Result.{err_from_is_err_and}
+use Rattle.std.proofs.lemmas.List.{take_all}
 use Rattle.versions.specs.declared.turn.Turn.TheVariants.{Store}
-use Rattle.versions.specs.Tables.{access_place, with_processor}
-use Rattle.versions.specs.Versions.{is_own}
+use Rattle.versions.specs.Orders.{place_in, Apart}
+use Rattle.versions.specs.Sharers.{SharersIn}
+use Rattle.versions.specs.Tables.{Table, access_place, with_processor}
+use Rattle.versions.specs.Versions.{is_own, squashed_by}
 use Rattle.versions.proofs.Judging.{load-agrees, ok-access, at-processor}
-use Rattle.versions.proofs.Ordering.{few}
+use Rattle.versions.proofs.Ordering.{few, apart-take}
 use Rattle.versions.proofs.Serving.{hit-is}
-use Rattle.versions.proofs.Tabling.{placed, squashes-le}
+use Rattle.versions.proofs.Tabling.{placed, place-take, squashes-le}
 use Rattle.snooping.specs.declared.line.Line.{Line}
 use Rattle.snooping.specs.Caches.{lines_in, processors_of, table_of}
-use Rattle.snooping.specs.Grid.{with_line, relinked}
+use Rattle.snooping.specs.Grid.{LineTable, Linked, table_by, with_line, relinked}
 use Rattle.snooping.specs.Lines.{version_at, with_stored}
 use Rattle.snooping.specs.Report.{reached, powers}
+use Rattle.snooping.proofs.Keeping.{laid-linked}
 use Rattle.snooping.proofs.Snooped.{took, took-refused, turn-store-hit, turn-store-miss, after-cut, hit-parts}
+use Rattle.snooping.proofs.store.SnoopingStoreVersionStore.store.Goals.{then-hit-gt0, else-hit-gt0}
 use Rattle.snooping.proofs.store.SnoopingStoreVersionStore.store.Goals as goal
+
+-- how many tasks a store hits, by the sharers' address
+hit-at : (table : Table) (ps : List ℕ) (k a n b : ℕ) → b ≡ a → n ≡ squashed_by (map (λ q. table q b) (drop (k + 1) ps)) → n ≡ squashed_by (map (λ q. table q a) (drop (k + 1) ps))
+hit-at table ps k a n b same e = e ∙ ap (λ (i : ℕ). squashed_by (map (λ q. table q i) (drop (k + 1) ps))) same
 
 pub returns-in_err-p : goal.returns-in_err-p
 returns-in_err-p g c =
@@ -53,13 +62,20 @@ invalidated-mask-requires g c =
     let at = at-processor c.args.p c.in_ok-p.p c.in_ok-p.k (λ (p : ℕ). access_place c.size.result ps (table_of s.caches) p c.args.a) c.in_ok-p.ensures in
     omega (arith, (placed ps c.in_ok-p.p c.in_ok-p.k (ok-access c.size.result ps (table_of s.caches) c.in_ok-p.p c.args.a c.in_ok-p.k at.1).0).within)
 
+pub squashed-hit-requires-clause-bound : goal.squashed-hit-requires-clause-bound
+squashed-hit-requires-clause-bound g c =
+    let s = c.args.self.now in
+    let ps = processors_of s.caches in
+    let at = at-processor c.args.p c.in_ok-p.p c.in_ok-p.k (λ (p : ℕ). access_place c.size.result ps (table_of s.caches) p c.args.a) c.in_ok-p.ensures in
+    omega (arith, (placed ps c.in_ok-p.p c.in_ok-p.k (ok-access c.size.result ps (table_of s.caches) c.in_ok-p.p c.args.a c.in_ok-p.k at.1).0).within)
+
 pub cut_last-requires : goal.cut_last-requires
 cut_last-requires g c =
     let s = c.args.self.now in
     let ps = processors_of s.caches in
     let at = at-processor c.args.p c.in_ok-p.p c.in_ok-p.k (λ (p : ℕ). access_place c.size.result ps (table_of s.caches) p c.args.a) c.in_ok-p.ensures in
     let place = (ok-access c.size.result ps (table_of s.caches) c.in_ok-p.p c.args.a c.in_ok-p.k at.1).0 in
-    omega (arith, squashes-le (table_of s.caches) ps c.in_ok-p.p c.in_ok-p.k c.args.a place, hit-is (table_of s.caches) ps c.in_ok-p.k c.args.a c.squashed-hit.result c.squashed-hit.ensures)
+    omega (arith, squashes-le (table_of s.caches) ps c.in_ok-p.p c.in_ok-p.k c.args.a place, hit-is (table_of s.caches) ps c.in_ok-p.k c.args.a c.squashed-hit.result (hit-at (table_of s.caches) ps c.in_ok-p.k c.args.a c.squashed-hit.result c.sharers-sharers.result.address c.sharers-sharers.ensures.address c.squashed-hit.ensures))
 
 pub overflow_cast-result : goal.overflow_cast-result
 overflow_cast-result g c =
@@ -67,7 +83,47 @@ overflow_cast-result g c =
     let ps = processors_of s.caches in
     let at = at-processor c.args.p c.in_ok-p.p c.in_ok-p.k (λ (p : ℕ). access_place c.size.result ps (table_of s.caches) p c.args.a) c.in_ok-p.ensures in
     let place = (ok-access c.size.result ps (table_of s.caches) c.in_ok-p.p c.args.a c.in_ok-p.k at.1).0 in
-    omega (arith, squashes-le (table_of s.caches) ps c.in_ok-p.p c.in_ok-p.k c.args.a place, hit-is (table_of s.caches) ps c.in_ok-p.k c.args.a c.squashed-hit.result c.squashed-hit.ensures, few ps c.requires.apart)
+    omega (arith, squashes-le (table_of s.caches) ps c.in_ok-p.p c.in_ok-p.k c.args.a place, hit-is (table_of s.caches) ps c.in_ok-p.k c.args.a c.squashed-hit.result (hit-at (table_of s.caches) ps c.in_ok-p.k c.args.a c.squashed-hit.result c.sharers-sharers.result.address c.sharers-sharers.ensures.address c.squashed-hit.ensures), few ps c.requires.apart)
+
+pub take_and_link-requires-clause-apart : goal.take_and_link-requires-clause-apart
+take_and_link-requires-clause-apart g c =
+    let ps = processors_of c.args.self.now.caches in
+    subst Apart (sym c.cut_last.ensures.order) (apart-take (length ps - c.squashed-hit.result) ps c.requires.apart)
+
+pub take_and_link-requires-clause-place : goal.take_and_link-requires-clause-place
+take_and_link-requires-clause-place g c =
+    let s = c.args.self.now in
+    let ps = processors_of s.caches in
+    let at = at-processor c.args.p c.in_ok-p.p c.in_ok-p.k (λ (p : ℕ). access_place c.size.result ps (table_of s.caches) p c.args.a) c.in_ok-p.ensures in
+    let place = (ok-access c.size.result ps (table_of s.caches) c.in_ok-p.p c.args.a c.in_ok-p.k at.1).0 in
+    let hit = hit-is (table_of s.caches) ps c.in_ok-p.k c.args.a c.squashed-hit.result (hit-at (table_of s.caches) ps c.in_ok-p.k c.args.a c.squashed-hit.result c.sharers-sharers.result.address c.sharers-sharers.ensures.address c.squashed-hit.ensures) in
+    ap (λ (l : List ℕ). place_in l c.in_ok-p.p) c.cut_last.ensures.order
+    ∙ place-take (length ps - c.squashed-hit.result) ps c.in_ok-p.p c.in_ok-p.k place (omega (arith, hit, squashes-le (table_of s.caches) ps c.in_ok-p.p c.in_ok-p.k c.args.a place))
+
+pub take_and_link-requires-clause-sharers : goal.take_and_link-requires-clause-sharers
+take_and_link-requires-clause-sharers g c =
+    let s = c.args.self.now in
+    let ps = processors_of s.caches in
+    let n = c.squashed-hit.result in
+    let new = c.cut_last.new.self in
+    elim c.if-hit-gt0.branch [
+      | then-hit-gt0 w ↦ subst (SharersIn (processors_of new) (table_of new)) (sym w.left-is) w.sharers-left.ensures.tasks
+      | else-hit-gt0 w ↦
+          let none : n ≡ 0 = omega (arith, w.if-hit-gt0.false) in
+          let order : processors_of new ≡ ps = c.cut_last.ensures.order ∙ take_all (length ps - n) ps (omega (arith, none)) in
+          subst (SharersIn (processors_of new) (table_of new)) (sym w.left-is)
+          (subst (λ (l : List ℕ). SharersIn l (table_of new) c.sharers-sharers.result) (sym order)
+          (subst (λ (x : LineTable). SharersIn ps (table_by x) c.sharers-sharers.result) (sym (c.cut_last.ensures.none none)) c.sharers-sharers.ensures.tasks))
+    ]
+
+pub take_and_link-requires-clause-linked : goal.take_and_link-requires-clause-linked
+take_and_link-requires-clause-linked g c =
+    let m = g.M.Memory in
+    let s = c.args.self.now in
+    let ps = processors_of s.caches in
+    let n = c.squashed-hit.result in
+    let cut = after-cut m.words s c.requires n c.cut_last.new.self.list c.cut_last.ensures.none c.cut_last.ensures.some in
+    subst (λ (l : List ℕ). Linked l c.args.a (lines_in c.cut_last.new.self)) (sym c.cut_last.ensures.order) (laid-linked (m.words s.memory) (take (length ps - n) ps) (lines_in c.cut_last.new.self) cut.0 c.args.a)
 
 pub returns : goal.returns
 returns g c =
@@ -87,8 +143,8 @@ returns g c =
     let mid = lines_in c.cut_last.new.self in
     took m.words m.sound m.spare s (λ (p : ℕ). Store p c.args.a c.args.w) c.args.p c.in_ok-p.p n _ at.0
     (turn-store-miss m.words s c.requires c.in_ok-p.p c.args.a c.args.w k n
-    c.invalidated-mask.result mid (processors_of c.take_and_relink.new.self) c.take_and_relink.new.self.list c.bus_write-self.result
+    c.invalidated-mask.result mid (processors_of c.take_and_link.new.self) c.take_and_link.new.self.list c.bus_write-self.result
     (at.1 ∙ ap (λ (n : ℕ). access_place n (processors_of s.caches) (table_of s.caches) c.in_ok-p.p c.args.a) c.size.ensures)
-    test (hit-is table ps k c.args.a n c.squashed-hit.ensures) mask cut.0 cut.1 (c.take_and_relink.ensures.order ∙ c.cut_last.ensures.order)
-    (c.take_and_relink.ensures.lines ∙ ap (λ (l : List ℕ). relinked l c.args.a (with_line mid c.in_ok-p.p (c.args.a % 16) (with_stored (mid c.in_ok-p.p (c.args.a % 16)) c.args.a c.args.w))) c.cut_last.ensures.order)
-    c.take_and_relink.new.self.wide c.bus_write-self.ensures) c.requires.memory refl
+    test (hit-is table ps k c.args.a n (hit-at (table_of s.caches) ps c.in_ok-p.k c.args.a c.squashed-hit.result c.sharers-sharers.result.address c.sharers-sharers.ensures.address c.squashed-hit.ensures)) mask cut.0 cut.1 (c.take_and_link.ensures.order ∙ c.cut_last.ensures.order)
+    (c.take_and_link.ensures.lines ∙ ap (λ (l : List ℕ). relinked l c.args.a (with_line mid c.in_ok-p.p (c.args.a % 16) (with_stored (mid c.in_ok-p.p (c.args.a % 16)) c.args.a c.args.w))) c.cut_last.ensures.order)
+    c.take_and_link.new.self.wide c.bus_write-self.ensures) c.requires.memory refl
