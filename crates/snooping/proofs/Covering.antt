@@ -1,15 +1,16 @@
 -- The sets of classes beside the caches: a line outside of its processor's set stays blank.
-use Rattle.std.proofs.Common.{◌≡◌, ℕ, ◌<◌, Bool, true, false, cond, ◌&&◌, ◌||◌, eqb, List, map, get_or, set, replicate, sym, refl, ap, ◌∙◌, arith}
+use Rattle.std.proofs.Common.{◌≡◌, ℕ, ◌<◌, ◌≤◌, Bool, true, false, cond, ◌&&◌, ◌||◌, eqb, List, map, get_or, set, replicate, is_some, Some, None, Option, ⊎_elim, sym, refl, ap, ◌∙◌, arith}
 use Rattle.std.proofs.lemmas.List.{length-set}
-use Rattle.std.proofs.lemmas.Bool.{eqb-true, true≢false}
+use Rattle.std.proofs.lemmas.Bool.{eqb-true, cases_lt, true≢false}
 use Rattle.versions.specs.ClassSets.{has}
 use Rattle.versions.specs.declared.class_set.ClassSet.{ClassSet}
+use Rattle.versions.specs.Orders.{place_in}
 use Rattle.versions.specs.Versions.{is_held}
 use Rattle.snooping.specs.declared.cache.Cache.{Cache}
 use Rattle.snooping.specs.declared.line.Line.{Line}
-use Rattle.snooping.specs.Grid.{no_cache, no_class, line_in, Wide, Covered}
-use Rattle.snooping.specs.Lines.{blank, version_in}
-use Rattle.snooping.proofs.Grids.{at_set, cache-mapped, line-changed, new-lines}
+use Rattle.snooping.specs.Grid.{no_cache, no_class, line_in, Wide, Covered, Pointing}
+use Rattle.snooping.specs.Lines.{blank, version_in, with_next, pointer_to, unlinked}
+use Rattle.snooping.proofs.Grids.{at_set, past-blank, cache-mapped, line-changed, new-lines}
 
 pub covered-new : (x : Cache) (s : ClassSet) → x.lines ≡ replicate 16 blank → Covered (replicate 4 x) (replicate 4 s)
 covered-new x s e = record { long = refl; outside = λ q c h l out. ap (λ (ls : ℕ → ℕ → Line). ls q c) (new-lines x e) }
@@ -73,3 +74,26 @@ module _ (cs : List Cache) (sets : List ClassSet) (covered : Covered cs sets) (w
       go q d low l true true t u out = kept (ap (λ (r : ℕ). has (get_or sets r no_class) c) (sym (eqb-true q p t)) ∙ (ap (λ (i : ℕ). has (get_or sets q no_class) i) (sym (eqb-true d c u)) ∙ out))
       go q d low l true false t u out = covered.outside q d low l out
       go q d low l false u t e out = covered.outside q d low l out
+
+-- where no processor without a task has a line of a class, no pointer to such a processor stands in a line of that class
+module _ (cs : List Cache) (sets : List ClassSet) (covered : Covered cs sets) (wide : Wide cs) (points : Pointing (line_in cs)) (ps : List ℕ) (touched : ClassSet)
+    (left : (r c : ℕ) → r < 4 → is_some (place_in ps r) ≡ false → has touched c ≡ false → has (get_or sets r no_class) c ≡ false) where
+  pub pointer-stays : (q c : ℕ) → c < 16 → has touched c ≡ false → unlinked ps (line_in cs q c) ≡ line_in cs q c
+  pointer-stays q c l out = go (line_in cs q c).next refl
+    where
+      unheld : (r : ℕ) → line_in cs r c ≡ blank → is_held (version_in (line_in cs r c)) ≡ true → ⊥
+      unheld r e held = true≢false (sym held ∙ ap (λ (x : Line). is_held (version_in x)) e)
+
+      kept : (r : ℕ) → (line_in cs q c).next ≡ Some r → (t : Bool) → is_some (place_in ps r) ≡ t → cond t (Some r) None ≡ Some r
+      kept r e true s = refl
+      kept r e false s =
+          absurd (⊎_elim (λ (h : r < 4). unheld r (covered.outside r c h l (left r c h s out)) (points q c r e)) (λ (h : 4 ≤ r). unheld r (past-blank cs wide r c h) (points q c r e)) (cases_lt r 4))
+
+      go : (o : Option ℕ) → (line_in cs q c).next ≡ o → with_next (line_in cs q c) (pointer_to ps (line_in cs q c).next) ≡ line_in cs q c
+      go None e = ap (λ (n : Option ℕ). with_next (line_in cs q c) (pointer_to ps n)) e ∙ ap (with_next (line_in cs q c)) (sym e)
+      go (Some r) e = ap (λ (n : Option ℕ). with_next (line_in cs q c) (pointer_to ps n)) e ∙ ap (with_next (line_in cs q c)) (kept r e (is_some (place_in ps r)) refl ∙ sym e)
+
+-- so a line of a class that is in two sets of these kinds not at once stays as it is
+pub outside-both : (ps : List ℕ) (x : Line) (a b t : Bool) → t ≡ (a && b) → t ≡ false → (a ≡ false → x ≡ blank) → (b ≡ false → unlinked ps x ≡ x) → unlinked ps x ≡ x
+outside-both ps x true b t e out empty stays = stays (sym e ∙ out)
+outside-both ps x false b t e out empty stays = let is = empty refl in ap (unlinked ps) is ∙ sym is

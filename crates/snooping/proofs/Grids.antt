@@ -83,6 +83,9 @@ pub cut-none : (ps : List ℕ) (ls : LineTable) → ls ≡ cut_below 0 ps ls
 cut-none ps ls = fun_ext (λ q. fun_ext (λ d. sym (cond-false (ltb q 0) (cut_to ps ls q d) (ls q d) (le-ltb q 0 (omega arith)))))
 
 module _ (ps : List ℕ) (ls now : LineTable) (p : ℕ) (so_far : now ≡ cut_below p ps ls) where
+  pub cut-yet : (d : ℕ) → now p d ≡ ls p d
+  cut-yet d = ap (λ (x : LineTable). x p d) so_far ∙ cond-false (ltb p p) (cut_to ps ls p d) (ls p d) (le-ltb p p (omega arith))
+
   step-at : (f : Line → Line) (q d : ℕ) → ((d : ℕ) → f (ls p d) ≡ cut_to ps ls p d) → (t u : Bool) → eqb q p ≡ t → ltb q p ≡ u
       → cond t (f (cond u (cut_to ps ls q d) (ls q d))) (cond u (cut_to ps ls q d) (ls q d)) ≡ cut_below (p + 1) ps ls q d
   step-at f q d is true true e u = absurd (omega (arith, eqb-true q p e, ltb-true q p u))

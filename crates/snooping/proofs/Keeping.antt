@@ -6,14 +6,15 @@ use Rattle.std.proofs.lemmas.List.{drop-append-le, take-append-le}
 use Rattle.std.proofs.lemmas.Bool.{eqb-true, eqb-false, eq-eqb, ne_eqb, cases_eq, cases_lt, cond-true, cond-false, true≢false, and_left, and_right, and_from}
 use Rattle.versions.specs.declared.version.Version.{Version}
 use Rattle.versions.specs.Orders.{place_in, Apart}
-use Rattle.versions.specs.Tables.{Table, with_version}
+use Rattle.versions.specs.Tables.{Table, with_version, Fitting}
 use Rattle.versions.specs.Versions.{no_version, is_held, is_own, seen_by}
 use Rattle.snooping.specs.declared.line.Line.{Line}
-use Rattle.snooping.specs.Grid.{LineTable, Linked, table_by, with_line, holder}
+use Rattle.snooping.specs.Grid.{LineTable, Linked, Pointing, table_by, with_line, holder}
 use Rattle.snooping.specs.Lines.{blank, version_in, version_at, with_next}
 use Rattle.versions.proofs.Classes.{unheld-none}
+use Rattle.versions.proofs.Ordering.{none-some}
 use Rattle.versions.proofs.Tabling.{placed}
-use Rattle.snooping.proofs.Holders.{holder-same, holder-append, same-column, take-place, place-once, same_place}
+use Rattle.snooping.proofs.Holders.{holder-same, holder-found, holder-append, same-column, take-place, place-once, same_place}
 
 -- a line that holds nothing is blank; the tag of one that does belongs to the line; its pointer names the next task in
 -- order that holds the address; and a copy has the word that the tasks before see
@@ -47,6 +48,21 @@ pub laid-linked : (ws ps : List ℕ) (ls : LineTable) → Laid ws ps ls → (a :
 laid-linked ws ps ls x a q k place held =
     let s = shown ls q a held in
     x.next q k (a % 16) place s.1 ∙ ap (λ (b : ℕ). holder (table_by ls) b (drop (suc k) ps)) s.0
+
+-- and a line that another points to holds something
+pub laid-pointing : (n : ℕ) (ws ps : List ℕ) (ls : LineTable) → Laid ws ps ls → Fitting n ps (table_by ls) → Pointing ls
+laid-pointing n ws ps ls x fits q c r e = go (is_held (version_in (ls q c))) refl
+  where
+    placed-line : is_held (version_in (ls q c)) ≡ true → (o : Option ℕ) → place_in ps q ≡ o → is_held (version_in (ls r c)) ≡ true
+    placed-line held None none =
+        absurd (true≢false (sym (ap is_held (shows ws ps ls x q c held) ∙ held) ∙ ap is_held (fits.idle q none (ls q c).tag)))
+    placed-line held (Some k) place =
+        let found = holder-found (table_by ls) (ls q c).tag (drop (suc k) ps) r (sym (x.next q k c place held) ∙ e) in
+        ap (λ (d : ℕ). is_held (version_in (ls r d))) (sym (x.class q c held)) ∙ (shown ls r (ls q c).tag found.1).1
+
+    go : (t : Bool) → is_held (version_in (ls q c)) ≡ t → is_held (version_in (ls r c)) ≡ true
+    go true held = placed-line held (place_in ps q) refl
+    go false none = absurd (none-some r (sym e ∙ ap (λ (z : Line). z.next) (x.bare q c none)))
 
 -- a start
 module _ (ws ps : List ℕ) (ls : LineTable) (x : Laid ws ps ls) (p : ℕ) (idle : (b : ℕ) → table_by ls p b ≡ no_version) where

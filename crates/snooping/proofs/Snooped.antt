@@ -29,7 +29,7 @@ use Rattle.snooping.specs.declared.state.LineState.TheVariants.{Invalid, Loaded,
 use Rattle.snooping.specs.declared.state.LineEvent.TheVariants.{Commit as CommitLine}
 use Rattle.snooping.specs.declared.store.SnoopingStore.{SnoopingStore}
 use Rattle.snooping.specs.Caches.{processors_of}
-use Rattle.snooping.specs.Grid.{LineTable, Linked, line_in, Wide, table_by, with_line, with_cache, holder, relinked, cut_to}
+use Rattle.snooping.specs.Grid.{LineTable, Linked, Pointing, line_in, Wide, table_by, with_line, with_cache, holder, relinked, cut_to}
 use Rattle.versions.specs.Tables.{last_that}
 use Rattle.snooping.specs.Layout.{lines_of}
 use Rattle.snooping.specs.Lines.{blank, version_in, version_at, with_loaded, with_stored, with_next, ended}
@@ -38,7 +38,7 @@ use Rattle.snooping.specs.Snooping.{plain_in, SoundSnooping, Shown, supplied_wor
 use Rattle.snooping.specs.States.{has_s}
 use Rattle.snooping.proofs.Ending.{cut-table, keep-cut, commit-table, keep-commit, replace-table, keep-replace}
 use Rattle.snooping.proofs.Holders.{holder-same, holder-none, same-column, seen-append, seen-owns, hidden-copy, take-place, place-once, place-value}
-use Rattle.snooping.proofs.Keeping.{Laid, laid-linked, shown, shows, keep-start, mid, mid-table, keep-change}
+use Rattle.snooping.proofs.Keeping.{Laid, laid-linked, laid-pointing, shown, shows, keep-start, mid, mid-table, keep-change}
 use Rattle.snooping.proofs.Laying.{caches-laid, laid-caches, own-word, some-if, last-seen}
 use Rattle.snooping.proofs.Linking.{relinked-same, relinked-class, relinked-unheld, relinked-held, relinked-table}
 use Rattle.snooping.proofs.Reporting.{reported, unreported, report-load, report-store, report-commit, report-replace}
@@ -463,6 +463,9 @@ module _ {M : Type 0} (words : M → List ℕ) {sound : M → Type 0} (st : Snoo
 
   pub sound-linked : (a : ℕ) → Linked ps a ls
   sound-linked a = laid-linked ws ps ls laid a
+
+  pub sound-pointing : Pointing ls
+  sound-pointing = laid-pointing (length ws) ws ps ls laid fits
 
   -- whether a store hits, by the line and by the order
   hit-test : (p k a : ℕ) → place_in ps p ≡ Some k → (is_own (table p a) && not (is_some (ls p (a % 16)).next)) ≡ (is_own (table p a) && not (is_some (holder table a (drop (suc k) ps))))

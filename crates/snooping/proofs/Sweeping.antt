@@ -1,4 +1,4 @@
--- The lines of a set of classes changed one after another, where the others are blank: all lines are changed.
+-- The lines of a set of classes changed one after another, where a change leaves the others as they are: all lines are changed.
 use Rattle.std.proofs.Common.{◌≡◌, ℕ, ◌<◌, Bool, true, false, cond, not, ◌&&◌, eqb, List, map, length, get_or, set, sym, refl, ap, ◌∙◌, arith}
 use Rattle.std.proofs.lemmas.List.{get_or-set_same, get_or-set_other, length-set, length-map, ext_get_or}
 use Rattle.std.proofs.lemmas.Bool.{eqb-true, eqb-false}
@@ -14,12 +14,12 @@ pub record Swept (f : Line → Line) (left : ClassSet) (xs ys : List Line) : Typ
   pub lines : (c : ℕ) → c < 16 → get_or ys c blank ≡ cond (has left c) (get_or xs c blank) (f (get_or xs c blank))
 
 module _ (f : Line → Line) (xs : List Line) where
-  pub sweep-start : (valid : ClassSet) → f blank ≡ blank → ((c : ℕ) → c < 16 → has valid c ≡ false → get_or xs c blank ≡ blank) → Swept f valid xs xs
-  sweep-start valid same outside = record { long = refl; lines = λ c l. go c l (has valid c) refl }
+  pub sweep-start : (valid : ClassSet) → ((c : ℕ) → c < 16 → has valid c ≡ false → f (get_or xs c blank) ≡ get_or xs c blank) → Swept f valid xs xs
+  sweep-start valid outside = record { long = refl; lines = λ c l. go c l (has valid c) refl }
     where
       go : (c : ℕ) → c < 16 → (t : Bool) → has valid c ≡ t → get_or xs c blank ≡ cond t (get_or xs c blank) (f (get_or xs c blank))
       go c l true e = refl
-      go c l false e = let b = outside c l e in b ∙ sym (ap f b ∙ same)
+      go c l false e = sym (outside c l e)
 
   pub sweep-step : (left next : ClassSet) (ys : List Line) (c : ℕ) → length xs ≡ 16 → Swept f left xs ys → c < 16 → has left c ≡ true → ((d : ℕ) → d < 16 → has next d ≡ (not (eqb d c) && has left d))
       → Swept f next xs (set ys c (f (get_or ys c blank)))

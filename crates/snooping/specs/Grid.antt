@@ -64,6 +64,10 @@ relinked (p ∷ ps) a ls = linked (relinked ps a ls) p a (holder (table_by ls) a
 abbrev pub Linked : List ℕ → ℕ → LineTable → Type 0
 Linked ps a ls = (q k : ℕ) → place_in ps q ≡ Some k → is_held (table_by ls q a) ≡ true → (ls q (a % 16)).next ≡ holder (table_by ls) a (drop (suc k) ps)
 
+-- a line that another points to holds something
+abbrev pub Pointing : LineTable → Type 0
+Pointing ls = (q c r : ℕ) → (ls q c).next ≡ Some r → is_held (version_in (ls r c)) ≡ true
+
 -- the lines of the processors ps alone, without pointers to others
 abbrev pub cut_to : List ℕ → LineTable → LineTable
 cut_to ps ls q d = cond (is_some (place_in ps q)) (unlinked ps (ls q d)) blank

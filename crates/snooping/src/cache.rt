@@ -77,14 +77,14 @@ impl Cache {
         }
     }
 
-    // Ends pointers to processors without a task; the lines outside of `valid` have none.
-    pub fn unlink(&mut self, order: &Order, running: &[bool], valid: ClassSet)
+    // Ends pointers to processors without a task; the lines outside of `touched` have none.
+    pub fn unlink(&mut self, order: &Order, running: &[bool], touched: ClassSet)
         requires full { length self.old.lines ≡ 16 }
         requires running { (q : ℕ) → slice_index_or running.now q false ≡ is_some (place_in order.now q) }
-        requires outside { (c : ℕ) → c < 16 → has valid c ≡ false → slice_index_or self.old.lines c blank ≡ blank }
+        requires outside { (c : ℕ) → c < 16 → has touched c ≡ false → unlinked order.now (slice_index_or self.old.lines c blank) ≡ slice_index_or self.old.lines c blank }
         ensures { self.new.lines ≡ map (unlinked order.now) self.old.lines }
     {
-        let mut left = valid;
+        let mut left = touched;
         while let Some(c) = left.take_lowest() {
             let line = &mut self.lines[c.index()];
             line.unlink(order, running);

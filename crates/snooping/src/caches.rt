@@ -26,7 +26,8 @@ impl Caches {
     ghost use Rattle.versions.specs.Versions.{is_own, is_held};
     ghost use Rattle.snooping.specs.declared.state.LineEvent.TheVariants.{Commit};
     ghost use Rattle.snooping.specs.Caches.{lines_in, table_of, processors_of};
-    ghost use Rattle.snooping.specs.Grid.{with_line, with_cache, holder, Linked, relinked, cut_to};
+    ghost use Rattle.snooping.specs.Grid.{with_line, with_cache, holder, Linked, relinked, Pointing, cut_to, no_class};
+    ghost use Rattle.versions.specs.ClassSets.{has};
     ghost use Rattle.versions.specs.Sharers.{SharersIn};
     ghost use Rattle.versions.specs.Tables.{last_that};
     ghost use Rattle.snooping.specs.Lines.{blank, version_in, with_taken, with_next, ended};
@@ -117,15 +118,17 @@ impl Caches {
         self.list[p.index()].end(a, LineEvent::Replace);
     }
 
-    // Ends the lines of processors without a task, and pointers to them.
+    // Ends the lines of processors without a task, and pointers to them. These stand in lines of classes of which such a processor has a line.
     fn trim(&mut self)
+        requires { Pointing (lines_in self.old) }
         ensures lines { lines_in self.new ≡ cut_to (processors_of self.old) (lines_in self.old) }
         ensures order { self.new.order ≡ self.old.order }
     {
         let running = running(&self.order);
+        let touched = self.left_over(&running);
         for (p, cache) in self.list.iter_mut().enumerate() {
             if running[p] {
-                cache.unlink(&self.order, &running, self.valid[p]);
+                cache.unlink(&self.order, &running, self.valid[p].and(touched));
             } else {
                 cache.end_all(LineEvent::Squash, self.valid[p]);
                 self.valid[p] = ClassSet::new();
@@ -133,10 +136,24 @@ impl Caches {
         }
     }
 
+    // The classes of which a processor that is not running may have a line.
+    fn left_over(&self, running: &[bool; 5]) -> ClassSet
+        ensures { (q c : ℕ) → q < 4 → slice_index_or running.now q false ≡ false → has result c ≡ false → has (slice_index_or self.now.valid q no_class) c ≡ false }
+    {
+        let mut classes = ClassSet::new();
+        for (q, valid) in self.valid.iter().enumerate() {
+            if !running[q] {
+                classes = classes.or(*valid);
+            }
+        }
+        classes
+    }
+
     // Removes the tasks from place k on: their lines end, and pointers to them. k is bounded by the order, so by a clause: a type
     // for it would be no plainer.
     pub fn cut(&mut self, k: usize)
-        requires { k ≤ length (processors_of self.old) }
+        requires bound { k ≤ length (processors_of self.old) }
+        requires pointing { Pointing (lines_in self.old) }
         ensures order { processors_of self.new ≡ take k (processors_of self.old) }
         ensures lines { lines_in self.new ≡ cut_to (take k (processors_of self.old)) (lines_in self.old) }
     {
@@ -146,7 +163,8 @@ impl Caches {
 
     // Removes the last n tasks; n is bounded by a clause, as above.
     pub fn cut_last(&mut self, n: usize)
-        requires { n ≤ length (processors_of self.old) }
+        requires bound { n ≤ length (processors_of self.old) }
+        requires pointing { Pointing (lines_in self.old) }
         ensures order { processors_of self.new ≡ take (length (processors_of self.old) - n) (processors_of self.old) }
         ensures none { n ≡ 0 → lines_in self.new ≡ lines_in self.old }
         ensures some { 0 < n → lines_in self.new ≡ cut_to (take (length (processors_of self.old) - n) (processors_of self.old)) (lines_in self.old) }

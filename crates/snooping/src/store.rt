@@ -108,7 +108,7 @@ impl<M: Memory> VersionStore for SnoopingStore<M> {
         let sharers = self.caches.sharers(a);
         let hit = self.caches.squashed(later, sharers);
         self.caches.cut_last(hit);
-        // Of those whose tasks are gone nothing may be linked, so then they are asked again.
+        // The tasks that are gone share the address no more.
         let left = if hit > 0 {
             self.caches.sharers(a)
         } else {

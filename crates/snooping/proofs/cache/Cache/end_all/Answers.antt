@@ -6,7 +6,8 @@ use Rattle.snooping.proofs.Sweeping.{Swept, sweep-start, sweep-step, sweep-end}
 use Rattle.snooping.proofs.cache.Cache.end_all.Goals as goal
 
 pub loop-c-init : goal.loop-c-init
-loop-c-init c = sweep-start (ended c.args.event) c.args.self.now.lines c.args.valid c.requires.ends c.requires.outside
+loop-c-init c = sweep-start (ended c.args.event) c.args.self.now.lines c.args.valid
+    (λ i l out. let b = c.requires.outside i l out in ap (ended c.args.event) b ∙ (c.requires.ends ∙ sym b))
 
 pub loop-c-preserved : goal.loop-c-preserved
 loop-c-preserved c =

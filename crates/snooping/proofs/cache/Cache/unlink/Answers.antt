@@ -6,7 +6,7 @@ use Rattle.snooping.proofs.Sweeping.{Swept, sweep-start, sweep-step, sweep-end}
 use Rattle.snooping.proofs.cache.Cache.unlink.Goals as goal
 
 pub loop-c-init : goal.loop-c-init
-loop-c-init c = sweep-start (unlinked c.args.order.now) c.args.self.now.lines c.args.valid refl c.requires.outside
+loop-c-init c = sweep-start (unlinked c.args.order.now) c.args.self.now.lines c.args.touched c.requires.outside
 
 pub loop-c-preserved : goal.loop-c-preserved
 loop-c-preserved c =

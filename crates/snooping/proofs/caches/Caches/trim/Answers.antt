@@ -1,12 +1,13 @@
-use Rattle.std.proofs.Common.{ℕ, List, map, get_or, is_some, set, sym, refl, ap, ◌∙◌, subst, arith}
+use Rattle.std.proofs.Common.{◌≡◌, ◌<◌, false, ℕ, List, map, get_or, is_some, set, sym, refl, ap, ◌∙◌, subst, arith}
 use Rattle.snooping.specs.declared.state.LineEvent.TheVariants.{Squash}
+use Rattle.versions.specs.ClassSets.{has}
 use Rattle.versions.specs.Orders.{place_in}
 use Rattle.snooping.specs.Caches.{lines_in, processors_of}
-use Rattle.snooping.specs.Grid.{no_cache, line_in, Tagged, Wide, Covered}
+use Rattle.snooping.specs.Grid.{no_cache, no_class, line_in, Tagged, Wide, Covered}
 use Rattle.snooping.specs.Lines.{unlinked, ended}
 use Rattle.snooping.specs.declared.cache.Cache.{Cache}
-use Rattle.snooping.proofs.Covering.{covered-mapped, covered-ended}
-use Rattle.snooping.proofs.Grids.{cut-none, cache-mapped, wide-mapped, cut-active, cut-idle, cut-all-caches, tagged-cut}
+use Rattle.snooping.proofs.Covering.{covered-mapped, covered-ended, pointer-stays, outside-both}
+use Rattle.snooping.proofs.Grids.{cut-none, cut-yet, cache-mapped, wide-mapped, cut-active, cut-idle, cut-all-caches, tagged-cut}
 use Rattle.snooping.proofs.caches.Caches.trim.Goals.{then-running-p, else-running-p}
 use Rattle.snooping.proofs.caches.Caches.trim.Goals as goal
 
@@ -20,7 +21,18 @@ pub unlink-requires-clause-running : goal.unlink-requires-clause-running
 unlink-requires-clause-running c q = c.running-running.ensures q ∙ ap (λ (ps : List ℕ). is_some (place_in ps q)) (sym c.loop-p.invariant.order)
 
 pub unlink-requires-clause-outside : goal.unlink-requires-clause-outside
-unlink-requires-clause-outside c d l out = c.loop-p.invariant.covered.outside c.loop-p.p d c.loop-p-test.true l out
+unlink-requires-clause-outside c d l out =
+    let s = c.args.self.now in
+    let ps = processors_of s in
+    let p = c.loop-p.p in
+    let i = c.loop-p.invariant in
+    let touched = c.left_over-touched.result in
+    let here = cut-yet ps (lines_in s) (line_in c.loop-p.cache-items) p i.lines d in
+    let left = λ (r e : ℕ) (h : r < 4) (idle : is_some (place_in ps r) ≡ false) (none : has touched e ≡ false). c.left_over-touched.ensures r e h (c.running-running.ensures r ∙ idle) none in
+    outside-both c.loop-p.self.1.1.1.0 (line_in c.loop-p.cache-items p d) (has (get_or c.loop-p.self.1.1.0 p no_class) d) (has touched d) (has c.and.result d) (c.and.ensures d) out
+    (λ none. i.covered.outside p d c.loop-p-test.true l none)
+    (λ none. ap (unlinked c.loop-p.self.1.1.1.0) here
+    ∙ (ap (λ (o : List ℕ). unlinked o (lines_in s p d)) i.order ∙ (pointer-stays s.list s.valid s.covered s.wide c.requires ps touched left p d l none ∙ sym here)))
 
 pub end_all-requires-clause-full : goal.end_all-requires-clause-full
 end_all-requires-clause-full c = c.loop-p.invariant.wide.lines c.loop-p.p c.loop-p-test.true
@@ -59,8 +71,8 @@ loop-p-preserved c =
           }
     ]
 
-pub invariant_of-self : goal.invariant_of-self
-invariant_of-self c =
+pub invariant_of-self-in-loop-p : goal.invariant_of-self-in-loop-p
+invariant_of-self-in-loop-p c =
     let s = c.args.self.now in
     let i = c.loop-p.invariant in record {
       wide = i.wide;

@@ -5,7 +5,7 @@ use Rattle.versions.specs.Tables.{squash_place}
 use Rattle.versions.proofs.Judging.{squash-agrees, ok-squash, at-processor}
 use Rattle.versions.proofs.Tabling.{placed}
 use Rattle.snooping.specs.Caches.{processors_of, table_of}
-use Rattle.snooping.proofs.Snooped.{took, took-refused, turn-squash}
+use Rattle.snooping.proofs.Snooped.{took, took-refused, sound-pointing, turn-squash}
 use Rattle.snooping.proofs.store.SnoopingStoreVersionStore.squash.Goals as goal
 
 pub returns-in_err-k : goal.returns-in_err-k
@@ -15,11 +15,14 @@ returns-in_err-k g c =
     let q = err_from_is_err_and c.from_residual.result c.from_residual.ensures.1 in
     took-refused m.words m.sound m.spare s (Squash c.args.p) c.from_residual.result c.in_err-k.field-0.0 c.args.p (squash_place (processors_of s.caches) c.args.p) c.requires (squash-agrees (m.words s.memory) (processors_of s.caches) (table_of s.caches) c.args.p) c.in_err-k.ensures (q.1 ∙ ap Err q.2)
 
-pub cut-requires : goal.cut-requires
-cut-requires g c =
+pub cut-requires-clause-bound : goal.cut-requires-clause-bound
+cut-requires-clause-bound g c =
     let ps = processors_of c.args.self.now.caches in
     let at = at-processor c.args.p c.in_ok-k.field-0-0 c.in_ok-k.k (squash_place ps) c.in_ok-k.ensures in
     omega (arith, (placed ps c.in_ok-k.field-0-0 c.in_ok-k.k (ok-squash ps c.in_ok-k.field-0-0 c.in_ok-k.k at.1).0).within)
+
+pub cut-requires-clause-pointing : goal.cut-requires-clause-pointing
+cut-requires-clause-pointing g c = sound-pointing g.M.Memory.words c.args.self.now c.requires
 
 pub overflow_sub-result : goal.overflow_sub-result
 overflow_sub-result g c =

@@ -16,7 +16,7 @@ use Rattle.snooping.specs.Grid.{LineTable, Linked, table_by, with_line, relinked
 use Rattle.snooping.specs.Lines.{version_at, with_stored}
 use Rattle.snooping.specs.Report.{reached, powers}
 use Rattle.snooping.proofs.Keeping.{laid-linked}
-use Rattle.snooping.proofs.Snooped.{took, took-refused, turn-store-hit, turn-store-miss, after-cut, hit-parts}
+use Rattle.snooping.proofs.Snooped.{took, took-refused, sound-pointing, turn-store-hit, turn-store-miss, after-cut, hit-parts}
 use Rattle.snooping.proofs.store.SnoopingStoreVersionStore.store.Goals.{then-hit-gt0, else-hit-gt0}
 use Rattle.snooping.proofs.store.SnoopingStoreVersionStore.store.Goals as goal
 
@@ -69,13 +69,16 @@ squashed-hit-requires-clause-bound g c =
     let at = at-processor c.args.p c.in_ok-p.p c.in_ok-p.k (λ (p : ℕ). access_place c.size.result ps (table_of s.caches) p c.args.a) c.in_ok-p.ensures in
     omega (arith, (placed ps c.in_ok-p.p c.in_ok-p.k (ok-access c.size.result ps (table_of s.caches) c.in_ok-p.p c.args.a c.in_ok-p.k at.1).0).within)
 
-pub cut_last-requires : goal.cut_last-requires
-cut_last-requires g c =
+pub cut_last-requires-clause-bound : goal.cut_last-requires-clause-bound
+cut_last-requires-clause-bound g c =
     let s = c.args.self.now in
     let ps = processors_of s.caches in
     let at = at-processor c.args.p c.in_ok-p.p c.in_ok-p.k (λ (p : ℕ). access_place c.size.result ps (table_of s.caches) p c.args.a) c.in_ok-p.ensures in
     let place = (ok-access c.size.result ps (table_of s.caches) c.in_ok-p.p c.args.a c.in_ok-p.k at.1).0 in
     omega (arith, squashes-le (table_of s.caches) ps c.in_ok-p.p c.in_ok-p.k c.args.a place, hit-is (table_of s.caches) ps c.in_ok-p.k c.args.a c.squashed-hit.result (hit-at (table_of s.caches) ps c.in_ok-p.k c.args.a c.squashed-hit.result c.sharers-sharers.result.address c.sharers-sharers.ensures.address c.squashed-hit.ensures))
+
+pub cut_last-requires-clause-pointing : goal.cut_last-requires-clause-pointing
+cut_last-requires-clause-pointing g c = sound-pointing g.M.Memory.words c.args.self.now c.requires
 
 pub overflow_cast-result : goal.overflow_cast-result
 overflow_cast-result g c =
