@@ -6,7 +6,7 @@ use Rattle.std.specs.Int.{bit_at, trailing_zeros}
 use Rattle.std.proofs.Math.Nat.{div-div-eq-div-mul, div-eq_of_lt-le, div-le_self, pow-suc, zero-mul}
 use Rattle.std.proofs.Math.ListN.{get_or-eq_default}
 use Rattle.std.specs.Option.{option_or}
-use Rattle.std.proofs.lemmas.List.{get_or-map, get_or_push, get_or_append_left, length_push, drop_all, drop_more, length-drop}
+use Rattle.std.proofs.lemmas.List.{get_or-take, length-take, get_or-map, get_or_push, get_or_append_left, length_push, drop_all, drop_more, length-drop}
 use Rattle.std.proofs.lemmas.Nat.{one_shl, pow-add}
 use Rattle.std.proofs.lemmas.Bool.{eq-eqb, ne_eqb, cases_eq, cases_lt, true≢false}
 use Rattle.std.proofs.lemmas.Nat.Bits.{bit_at-lt, bit_at-zero, bit_at_and, bit_at_ones, bit_at_ones_above, bit_at-pow_same, bit_at-pow_other, bit_at_above, bit_at-trailing_zeros}
@@ -56,6 +56,17 @@ first-some n k fits some =
           let on : k + (i - k) ≡ i = omega (arith, h) in
           ap (bit_set n) (sym on) ∙ (sym (high-bit n k (i - k)) ∙ ap (λ x. eqb x 1) (law.2 (i - k) (omega (arith, h, under)))),
     )
+
+-- ---- the first versions alone
+
+pub flag-kept : (f : Version → Bool) → f no_version ≡ false → (n k : ℕ) (vs : List Version) → ((i : ℕ) → bit_set n i ≡ f (get_or vs i no_version)) → (i : ℕ)
+    → bit_set (bit_and n (2 ^ k - 1)) i ≡ f (get_or (take k vs) i no_version)
+flag-kept f none n k vs so_far i = ⊎_elim
+    (λ (h : i < k). low-bit n k i h ∙ (so_far i ∙ ap f (sym (get_or-take k vs i no_version h))))
+    (λ (h : k ≤ i).
+    let gone : bit_at (bit_and n (2 ^ k - 1)) i ≡ 0 = omega (arith, bit_at_and n (2 ^ k - 1) i, bit_at_ones_above k i h, bit_at-lt n i) in
+    ap (λ x. eqb x 1) gone ∙ (sym none ∙ ap f (sym (get_or-eq_default (take k vs) no_version (omega (arith, length-take k vs, h))))))
+    (cases_lt i k)
 
 -- ---- one version more
 

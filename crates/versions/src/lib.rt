@@ -6,6 +6,7 @@ mod class_set;
 mod order;
 mod play;
 mod processor;
+mod processor_list;
 mod refusal;
 mod sharers;
 mod store;

@@ -3,7 +3,7 @@ ghost use Rattle.std.specs.Prelude.{◌≡◌, ℕ, ◌<◌, ◌≤◌, [], ◌�
 ghost use Rattle.versions.specs.Orders.{place_in, Apart, kept_below, moved_down};
 
 use crate::processor::Processor;
-use arrayvec::ArrayVec;
+use crate::processor_list::ProcessorList;
 use std::marker::Model;
 
 // How many processors there are; as a place it stands for none.
@@ -28,7 +28,7 @@ fn moved_down(place: usize) -> usize
 
 #[derive(Clone, Drop)]
 pub struct Order {
-    list: ArrayVec<Processor, 4>,
+    list: ProcessorList,
     // The place of each processor, or 4. Each turn asks for one, and a search of the list would cost a tenth of a turn.
     places: [usize; PROCESSORS],
 }
@@ -42,9 +42,9 @@ impl Model for Order {
 
     ghost use Rattle.versions.specs.Orders.{Apart, Placing};
 
-    ghost view = { λ o. o.list.items };
+    ghost view = { λ o. o.list };
 
-    ghost invariant = { λ o. Apart o.list.items × Placing o.list.items o.places };
+    ghost invariant = { λ o. Apart o.list × Placing o.list o.places };
 }
 
 impl Order {
@@ -53,7 +53,7 @@ impl Order {
         ensures { result ≡ [] }
     {
         Order {
-            list: ArrayVec::new(),
+            list: ProcessorList::new(),
             places: [PROCESSORS; PROCESSORS],
         }
     }
@@ -74,6 +74,14 @@ impl Order {
         ensures apart { Apart self.now }
     {
         self.list.as_slice()
+    }
+
+    // Four processors: those with a task, oldest first, and then any. A loop over these goes round four times, however many tasks there are.
+    pub fn slots(&self) -> &[Processor]
+        ensures first { take (length self.now) result.now ≡ self.now }
+        ensures four { length result.now ≡ 4 }
+    {
+        self.list.slots()
     }
 
     // The place of p, from 0 for the oldest.
@@ -126,6 +134,6 @@ impl Order {
         for place in self.places.iter_mut() {
             *place = moved_down(*place);
         }
-        let _ = self.list.remove(0);
+        self.list.remove_first();
     }
 }

@@ -1,6 +1,6 @@
 // Which of the active tasks have a mark at one address, and which an own word. All is found of these bits without a loop: where a search of
 // the tasks would end can't be foreseen, and a wrong guess costs more than to ask all four.
-ghost use Rattle.std.specs.Prelude.{◌≡◌, ℕ, ◌<◌, ◌≤◌, [], ◌∷◌, ◌++◌, List, length};
+ghost use Rattle.std.specs.Prelude.{◌≡◌, ℕ, ◌<◌, ◌≤◌, [], ◌∷◌, ◌++◌, List, length, take};
 ghost use Rattle.versions.specs.declared.version.Version.{Version};
 ghost use Rattle.versions.specs.Sharers.{SharersOf, SquashedFrom, bit_set, LastBelow, FirstFrom, owns_at, holds_at};
 
@@ -35,6 +35,17 @@ impl Sharers {
     {
         self.marks |= (v.mark as u32) << k;
         self.owns |= (v.own.is_some() as u32) << k;
+    }
+
+    // Forgets all but the first n: where all four processors were asked, those past the tasks that there are.
+    pub fn keep(&mut self, n: usize)
+        requires { n ≤ 4 }
+        ensures address { self.new.address ≡ self.old.address }
+        ensures first { (vs : List Version) → SharersOf vs self.old → SharersOf (take n vs) self.new }
+    {
+        let first = (1 << n) - 1;
+        self.marks &= first;
+        self.owns &= first;
     }
 
     // The place of the nearest task before place k with an own word. The bits mean what the clause says, here and below, since no type can

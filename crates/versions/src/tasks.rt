@@ -44,15 +44,17 @@ pub trait TaskTable {
         self.held(p, Class::of(a)).is_some_and(|b| b != a)
     }
 
-    // The sharers of a. All tasks are asked, as what is sought of them may lie at any place.
+    // The sharers of a. All are asked, as what is sought of them may lie at any place; and of four processors, however many tasks there
+    // are, as the number of rounds can't be foreseen else.
     fn sharers(&self, a: u32) -> Sharers
         ensures address { result.address ≡ a }
         ensures tasks { SharersIn (processors self.now) (table self.now) result }
     {
         let mut sharers = Sharers::new(a);
-        for (k, p) in self.order().processors().iter().enumerate() {
+        for (k, p) in self.order().slots().iter().enumerate() {
             sharers.add(k, self.version(*p, a));
         }
+        sharers.keep(self.order().len());
         sharers
     }
 

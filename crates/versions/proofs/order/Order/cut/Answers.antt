@@ -7,10 +7,10 @@ use Rattle.versions.proofs.order.Order.cut.Goals as goal
 pub invariant_of-self : goal.invariant_of-self
 invariant_of-self c =
     let k = c.args.k in
-    let ps = c.self.inside.list.items in
+    let ps = c.self.inside.list in
     let places = c.self.inside.places in
     let end : length places ≤ c.loop-place.place-index = omega (arith, c.self.told, c.loop-place-test.false) in
     let all : c.loop-place.place-items ≡ map (kept_below k) places = all-changed (kept_below k) places c.loop-place.place-items c.loop-place.place-index c.loop-place.invariant end in (
-      subst Apart (sym c.truncate.ensures.items) (apart-take k ps c.self.invariant.0),
-      subst (λ (qs : List ℕ). Placing qs c.loop-place.place-items) (sym c.truncate.ensures.items) (subst (Placing (take k ps)) (sym all) (placing-cut ps places k c.self.invariant.1)),
+      subst Apart (sym c.truncate.ensures) (apart-take k ps c.self.invariant.0),
+      subst (λ (qs : List ℕ). Placing qs c.loop-place.place-items) (sym c.truncate.ensures) (subst (Placing (take k ps)) (sym all) (placing-cut ps places k c.self.invariant.1)),
     )

@@ -6,11 +6,11 @@ use Rattle.versions.proofs.order.Order.remove_first.Goals as goal
 
 pub invariant_of-self : goal.invariant_of-self
 invariant_of-self c =
-    let ps = c.self.inside.list.items in
+    let ps = c.self.inside.list in
     let places = c.self.inside.places in
     let end : length places ≤ c.loop-place.place-index = omega (arith, c.self.told, c.loop-place-test.false) in
     let all : c.loop-place.place-items ≡ map moved_down places = all-changed moved_down places c.loop-place.place-items c.loop-place.place-index c.loop-place.invariant end in
     let some : 0 < length ps = subst (λ (qs : List ℕ). 0 < length qs) (sym c.self.view_is) c.requires in (
-      subst Apart (sym c.remove.ensures.items) (apart-drop ps c.self.invariant.0),
-      subst (λ (qs : List ℕ). Placing qs c.loop-place.place-items) (sym c.remove.ensures.items) (subst (Placing (drop 1 ps)) (sym all) (placing-drop ps places c.self.invariant.0 c.self.invariant.1 some)),
+      subst Apart (sym c.remove_first.ensures) (apart-drop ps c.self.invariant.0),
+      subst (λ (qs : List ℕ). Placing qs c.loop-place.place-items) (sym c.remove_first.ensures) (subst (Placing (drop 1 ps)) (sym all) (placing-drop ps places c.self.invariant.0 c.self.invariant.1 some)),
     )
