@@ -1,2 +1,1 @@
 mod Running
-mod Listing

@@ -1,19 +1,24 @@
 // Playing an image and a text of turns as the programs do, with the listing in the caller's buffer.
-ghost use Rattle.std.specs.Prelude.{◌≡◌, length, take, replicate};
+ghost use Rattle.std.specs.Prelude.{◌≡◌, ◌+◌, ◌*◌, ◌≤◌, ◌++◌, length, take, replicate};
+ghost use Rattle.arrayvec.specs.ArrayString.{array_string_len};
 ghost use Rattle.memory.specs.Words.{MemorySize};
 ghost use Rattle.memory.specs.Rows.{words_in};
-ghost use Rattle.player.specs.Capacity.{most_bytes};
-ghost use Rattle.player.specs.Listings.{listing_of, listing_played};
+ghost use Rattle.player.specs.Capacity.{most_bytes, most_turns};
+ghost use Rattle.player.specs.Listings.{answer_lines, listing_of, listing_played, word_lines};
 ghost use Rattle.model.specs.Listed.{ListedIn};
 
 use arrayvec::ArrayString;
 use memory::{MOST_WORDS, Memory, WordMemory};
-use player::{Input, Lists, MOST_BYTES, MOST_TURNS, Played, PlayerFault, RowList, play_on};
-use std::fmt::Write;
+use player::{
+    Input, Lists, MOST_BYTES, MOST_TURNS, PlayerFault, RowList, answer_line, fault_line, play_on,
+    tasks_line, word_line,
+};
 use stores::{Answer, CentralBuffer, SnoopingStore, Turn, VersionStore};
 
-// More bytes than any listing has: at most 19 for each answer, 8 for the number of tasks, and 19 for each word.
+// More bytes than any listing has: at most 19 for each answer, a line's most for the number of tasks, and 19 for each word.
 const MOST_LISTED: usize = 131072;
+
+type Told = ArrayString<MOST_LISTED>;
 
 // As many bytes as the programs read of a file.
 fn start_of(bytes: &[u8]) -> &[u8]
@@ -51,30 +56,54 @@ fn play<'a, 'b, S: VersionStore<Below = WordMemory<'a>>>(
     list(lists.answers.items(), outcome, memory.close(), listing)
 }
 
-// Writes a listing to the buffer if it fits. It gives the listing's length, or 0 where there is none: no listing is too long, but of a
-// text that is written no contract says that it will be.
+// Writes a listing to the buffer if it fits, and gives its length.
 fn list(
     answers: &[Answer],
     outcome: Result<u32, PlayerFault>,
     words: &[u32],
     listing: &mut [u8],
 ) -> usize
+    requires turns { length answers.now ≤ most_turns }
+    requires size { length words.now ≤ 4096 }
     ensures { ListedIn (listing_of answers.now outcome words.now) listing.old result listing.new }
 {
-    let played = Played {
-        answers,
-        outcome,
-        words,
-    };
-    let mut told = ArrayString::<MOST_LISTED>::new();
-    if write!(told, "{played}").is_err() {
-        return 0;
+    let mut told = Told::new();
+    match outcome {
+        Ok(tasks) => {
+            tell_answers(answers, &mut told);
+            told.push_str(tasks_line(tasks).as_str());
+            tell_words(words, &mut told);
+        }
+        Err(fault) => told.push_str(fault_line(fault).as_str()),
     }
     let n = told.len();
     if n <= listing.len() {
         listing[..n].copy_from_slice(told.as_bytes());
     }
     n
+}
+
+// Adds the lines of the answers.
+fn tell_answers(answers: &[Answer], told: &mut Told)
+    requires turns { length answers.now ≤ most_turns }
+    requires room { array_string_len told.old + 19 * length answers.now ≤ MOST_LISTED }
+    ensures text { told.new.bytes ≡ told.old.bytes ++ answer_lines answers.now }
+    ensures short { array_string_len told.new ≤ array_string_len told.old + 19 * length answers.now }
+{
+    for (i, answer) in answers.iter().enumerate() {
+        told.push_str(answer_line(i + 1, *answer).as_str());
+    }
+}
+
+// Adds the lines of the words that are not 0.
+fn tell_words(words: &[u32], told: &mut Told)
+    requires size { length words.now ≤ 4096 }
+    requires room { array_string_len told.old + 19 * length words.now ≤ MOST_LISTED }
+    ensures { told.new.bytes ≡ told.old.bytes ++ word_lines words.now }
+{
+    for (a, word) in words.iter().enumerate() {
+        told.push_str(word_line(a, *word).as_str());
+    }
 }
 
 // On the snooping store, as the program `play`.

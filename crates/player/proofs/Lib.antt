@@ -10,3 +10,4 @@ pub mod RoundTrip
 pub mod Exact
 pub mod Adding
 pub mod Performing
+pub mod Digits

@@ -1,11 +1,12 @@
 // Faults: why an image, a text or a list was refused, and where. The list's own fault stays inside the text's, and both
 // inside the player's, which tells its layer, number and place.
-ghost use Rattle.std.specs.Prelude.{◌≡◌, List, Some};
+ghost use Rattle.std.specs.Prelude.{◌≡◌, ◌≤◌, List, length, Some};
 ghost use Rattle.player.specs.declared.fault.PlayerFault.TheVariants.{Image as AnImage, Text as ATurnText};
 ghost use Rattle.player.specs.declared.fault.TextWhy.TheVariants.{List as AList};
 ghost use Rattle.player.specs.Faults.{list_number, list_text, text_number, image_number, text_layer, layer_of, number_of, place_of, layer_word, fault_text};
 ghost use Rattle.player.specs.Image.{fault_at};
 
+use crate::lines::fault_text;
 use std::error::Error;
 use std::fmt;
 
@@ -130,15 +131,25 @@ pub enum Layer {
     List,
 }
 
+impl Layer {
+    // The word by which users know the layer.
+    pub fn word(self) -> &'static str
+        ensures value { result.now ≡ layer_word self }
+        ensures short { length result.now ≤ 5 }
+    {
+        match self {
+            Layer::Image => "image",
+            Layer::Text => "text",
+            Layer::List => "list",
+        }
+    }
+}
+
 impl fmt::Display for Layer {
     ghost output = { λ l. Some (layer_word l) };
 
     fn fmt<W: fmt::Write>(&self, f: &mut fmt::Formatter<W>) -> fmt::Result {
-        match self {
-            Layer::Image => f.write_str("image"),
-            Layer::Text => f.write_str("text"),
-            Layer::List => f.write_str("list"),
-        }
+        f.write_str(self.word())
     }
 }
 
@@ -203,10 +214,7 @@ impl fmt::Display for PlayerFault {
     ghost output = { λ e. Some (fault_text e) };
 
     fn fmt<W: fmt::Write>(&self, f: &mut fmt::Formatter<W>) -> fmt::Result {
-        let layer = self.layer();
-        let number = self.number();
-        let place = self.place();
-        write!(f, "fault {layer} {number} {place}")
+        f.write_str(fault_text(*self).as_str())
     }
 }
 

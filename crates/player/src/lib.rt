@@ -4,6 +4,7 @@
 
 mod fault;
 mod image;
+mod lines;
 mod list;
 mod loading;
 mod number;
@@ -16,6 +17,7 @@ mod write;
 
 pub use fault::{Fault, ImageFault, ImageWhy, Layer, ListFault, PlayerFault, TextFault, TextWhy};
 pub use image::load_image;
+pub use lines::{Line, MOST_LINE, answer_line, fault_line, fault_text, tasks_line, word_line};
 pub use list::RowList;
 pub use loading::Loading;
 pub use output::{Played, listing, words_of};

@@ -4,6 +4,7 @@ ghost use Rattle.std.specs.Prelude.{◌≡◌, IfOk, Some, string_bytes};
 ghost use Rattle.player.specs.Listings.{answer_lines, word_lines, listing_of};
 
 use crate::fault::PlayerFault;
+use crate::lines::{answer_line, fault_line, tasks_line, word_line};
 use memory::Memory;
 use std::alloc::{AllocError, Global};
 use std::fmt;
@@ -24,10 +25,10 @@ impl fmt::Display for Played<'_> {
         match self.outcome {
             Ok(tasks) => {
                 AnswerLines(self.answers).fmt(f)?;
-                writeln!(f, "tasks {tasks}")?;
+                f.write_str(tasks_line(tasks).as_str())?;
                 WordLines(self.words).fmt(f)
             }
-            Err(fault) => writeln!(f, "{fault}"),
+            Err(fault) => f.write_str(fault_line(fault).as_str()),
         }
     }
 }
@@ -41,11 +42,7 @@ impl fmt::Display for AnswerLines<'_> {
 
     fn fmt<W: fmt::Write>(&self, f: &mut fmt::Formatter<W>) -> fmt::Result {
         for (i, answer) in self.0.iter().enumerate() {
-            let number = i + 1;
-            match answer {
-                Ok(n) => writeln!(f, "{number} ok {n}")?,
-                Err(refusal) => writeln!(f, "{number} {refusal}")?,
-            }
+            f.write_str(answer_line(i + 1, *answer).as_str())?;
         }
         Ok(())
     }
@@ -60,9 +57,7 @@ impl fmt::Display for WordLines<'_> {
 
     fn fmt<W: fmt::Write>(&self, f: &mut fmt::Formatter<W>) -> fmt::Result {
         for (a, word) in self.0.iter().enumerate() {
-            if *word != 0 {
-                writeln!(f, "at {a} {word}")?;
-            }
+            f.write_str(word_line(a, *word).as_str())?;
         }
         Ok(())
     }

@@ -7,6 +7,8 @@ mod faults;
 #[cfg(test)]
 mod images;
 #[cfg(test)]
+mod lines;
+#[cfg(test)]
 mod lists;
 #[cfg(test)]
 mod loading;

@@ -6,4 +6,4 @@ use Rattle.player.proofs.output.WordLinesDisplay.fmt.Given as goal
 -- the lines before are written
 abbrev pub invariant-loop-a : goal.invariant-loop-a
 invariant-loop-a g l =
-    IsPlainFormatter l.fn.f → HasWritten g.W.Write.write_str_gives l.fn.f (lines_below (λ a. word_line a (get_or l.self.0.now a 0)) l.a-counter) l.f
+    IsPlainFormatter l.fn.f → HasWritten g.W.Write.write_str_gives l.fn.f (lines_below (λ a. word_line a (get_or l.self.0.now a 0)) l.a) l.f
