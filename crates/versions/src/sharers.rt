@@ -1,7 +1,8 @@
 // Which of the active tasks have a mark at one address, and which an own word. All is found of these bits without a loop: where a search of
 // the tasks would end can't be foreseen, and a wrong guess costs more than to ask all four.
-ghost use Rattle.std.specs.Prelude.{◌≡◌, ℕ, ◌<◌, ◌≤◌, [], ◌∷◌, ◌++◌, List, length, take};
+ghost use Rattle.std.specs.Prelude.{◌≡◌, ℕ, ◌<◌, ◌≤◌, [], ◌∷◌, ◌++◌, List, length, get_or, take};
 ghost use Rattle.versions.specs.declared.version.Version.{Version};
+ghost use Rattle.versions.specs.Versions.{no_version};
 ghost use Rattle.versions.specs.Sharers.{SharersOf, SquashedFrom, bit_set, LastBelow, FirstFrom, owns_at, holds_at};
 
 use crate::version::Version;
@@ -71,6 +72,22 @@ impl Sharers {
         ensures { (vs : List Version) → SharersOf vs self → FirstFrom (holds_at vs) k result }
     {
         first_from(self.marks | self.owns, k)
+    }
+
+    // The place of the first task from place k on with an own word.
+    pub fn owner_from(self, k: usize) -> Option<usize>
+        requires { k ≤ 4 }
+        ensures { (vs : List Version) → SharersOf vs self → FirstFrom (owns_at vs) k result }
+    {
+        first_from(self.owns, k)
+    }
+
+    // Whether the task at a place has a mark.
+    pub fn is_marked(self, place: usize) -> bool
+        requires { place ≤ 4 }
+        ensures { (vs : List Version) → SharersOf vs self → result ≡ (get_or vs place no_version).mark }
+    {
+        (self.marks >> place) & 1 == 1
     }
 
     // The place of the first task that a store to the address squashes, by the task before place k; all after it go too.
