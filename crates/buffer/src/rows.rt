@@ -101,7 +101,8 @@ impl Set {
         }
     }
 
-    // The sharers of a among the tasks of an order. Its row is looked for once, and then asked for each task.
+    // The sharers of a among the tasks of an order. Its row is looked for once, and then asked for each task. (To ask for all four places, those
+    // past the last task too, would need no branch, and was measured to be slower.)
     fn sharers(&self, order: &Order, a: u32) -> Sharers
         requires { GoodSet (a % 16) self.now }
         ensures address { result.address ≡ a }
