@@ -175,21 +175,22 @@ impl Caches {
         }
     }
 
-    // The processors from place k on that the invalidations of a store to a reach, as a sum of powers of two. All tasks are gone through, also
-    // past the last that is reached: where a loop ends early can't be foreseen. k is bounded by a clause, as above.
-    pub fn invalidated(&self, k: usize, a: u32) -> u32
-        requires { k ≤ length (processors_of self.now) }
-        ensures { result ≡ powers (reached (λ q. table_of self.now q a) (drop k (processors_of self.now))) }
+    // The processors from place k on that the invalidations of a store to the sharers' address reach, as a sum of powers of two: those up to the
+    // first with an own word, and that one only if it has a mark too. All four slots are gone through, as the number of rounds can't be
+    // foreseen else. k is bounded by a clause, as above.
+    pub fn invalidated(&self, k: usize, sharers: Sharers) -> u32
+        requires bound { k ≤ length (processors_of self.now) }
+        requires sharers { SharersIn (processors_of self.now) (table_of self.now) sharers }
+        ensures { result ≡ powers (reached (λ q. table_of self.now q sharers.address) (drop k (processors_of self.now))) }
     {
+        let end = match sharers.owner_from(k) {
+            Some(place) => place + sharers.is_marked(place) as usize,
+            None => self.order.len(),
+        };
         let mut mask = 0;
-        // Whether none so far has an own word, which hides the later ones.
-        let mut onward = true;
-        for p in &self.order.processors()[k..] {
-            let version = self.version(*p, a);
-            let own = version.own.is_some();
-            let reached = onward & (version.mark | !own);
+        for (i, p) in self.order.slots().iter().enumerate() {
+            let reached = (k <= i) & (i < end);
             mask += (reached as u32) << p.number();
-            onward &= !own;
         }
         mask
     }

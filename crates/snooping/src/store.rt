@@ -104,8 +104,8 @@ impl<M: Memory> VersionStore for SnoopingStore<M> {
         }
         // The invalidations go out before the tasks that they squash are gone.
         let later = k + 1;
-        let mask = self.caches.invalidated(later, a);
         let sharers = self.caches.sharers(a);
+        let mask = self.caches.invalidated(later, sharers);
         let hit = self.caches.squashed(later, sharers);
         self.caches.cut_last(hit);
         // The tasks that are gone share the address no more.

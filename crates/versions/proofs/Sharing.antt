@@ -196,7 +196,7 @@ last-that-some f (p ∷ ps) (suc k) zero h l here later =
 last-that-some f (p ∷ ps) (suc k) (suc j) h l here later =
     ap (λ o. option_or o (cond (f p) (Some p) None)) (last-that-some f ps k j (omega (arith, h)) (omega (arith, l)) here (λ i a m. later (suc i) (omega (arith, a)) (omega (arith, m))))
 
-own-of : (f : ℕ → Version) (ps : List ℕ) (i : ℕ) → i < length ps → owns_at (map f ps) i ≡ is_own (f (get_or ps i 0))
+pub own-of : (f : ℕ → Version) (ps : List ℕ) (i : ℕ) → i < length ps → owns_at (map f ps) i ≡ is_own (f (get_or ps i 0))
 own-of f ps i l = ap is_own (get_or-map f ps i 0 no_version l)
 
 pub nearest-none : (f : ℕ → Version) (ps : List ℕ) (k : ℕ) → k ≤ length ps → LastBelow (owns_at (map f ps)) k None → None ≡ last_that (λ q. is_own (f q)) (take k ps)
@@ -209,3 +209,6 @@ nearest-some f ps k j h last =
 -- who holds or has an own word is one of them
 pub holds-inside : (vs : List Version) (i : ℕ) → holds_at vs i ≡ true → i < length vs
 holds-inside vs i h = ⊎_elim (λ (l : i < length vs). l) (λ (l : length vs ≤ i). absurd (true≢false (sym h ∙ ap is_held (get_or-eq_default vs no_version l)))) (cases_lt i (length vs))
+
+pub owns-inside : (vs : List Version) (i : ℕ) → owns_at vs i ≡ true → i < length vs
+owns-inside vs i h = ⊎_elim (λ (l : i < length vs). l) (λ (l : length vs ≤ i). absurd (true≢false (sym h ∙ ap is_own (get_or-eq_default vs no_version l)))) (cases_lt i (length vs))

@@ -1,35 +1,47 @@
-use Rattle.std.proofs.Common.{◌≡◌, ◌+◌, ◌-◌, ◌^◌, ◌<◌, Bool, cond, not, ◌&&◌, ◌||◌, List, length, get_or, take, drop, ℕ, sym, ap, ◌∙◌, arith}
-use Rattle.std.proofs.lemmas.List.{take_all, length-drop}
+use Rattle.std.proofs.Common.{◌≡◌, ◌+◌, ◌-◌, ◌^◌, ◌<◌, ◌≤◌, ℕ, cond, ◌&&◌, leb, ltb, min, map, length, get_or, take, drop, sym, ap, ◌∙◌, arith}
+use Rattle.std.proofs.lemmas.List.{get_or_default, length-map}
 use Rattle.versions.specs.declared.version.Version.{Version}
-use Rattle.versions.specs.Versions.{is_own}
 use Rattle.snooping.specs.Caches.{processors_of, table_of}
 use Rattle.snooping.specs.Report.{reached, powers}
-use Rattle.snooping.proofs.Watching.{reach-on, bit}
+use Rattle.snooping.proofs.Watching.{byte-is, bit, sum-on, reached-none, reached-some, slots-of}
 use Rattle.snooping.proofs.caches.Caches.invalidated.Goals as goal
+use Rattle.snooping.proofs.caches.Caches.invalidated.Goals.{in-Some, in-None}
 
-pub loop-p-preserved : goal.loop-p-preserved
-loop-p-preserved c =
-    let s = c.args.self.now in
+pub loop-i-preserved : goal.loop-i-preserved
+loop-i-preserved c =
+    let items = c.slots-p-items.result.now in
     let k = c.args.k in
-    let i = c.loop-p.p-index in
-    let later = drop k (processors_of s) in
-    let p = c.p-item.result in
+    let i = c.loop-i.i in
+    let end = c.match-owner_from.end in
+    let mask = c.loop-i.mask in
     let n = c.number.result in
-    let mask = c.loop-p.mask in
-    let on = c.loop-p.onward in
-    let items = c.processors.result.now in
-    let all : take (length items - k) (drop k items) ≡ later = take_all (length items - k) (drop k items) (omega (arith, length-drop k items)) ∙ ap (λ (l : List ℕ). drop k l) c.processors.ensures.value in
-    let inside : i < length later = omega (arith, c.loop-p-test.true, ap length all) in
-    let here : p ≡ get_or later i p = c.p-item.is ∙ ap (λ (l : List ℕ). get_or l i p) all in
-    let v = c.version-version.result in
-    let f = λ (q : ℕ). table_of s q c.args.a in
-    let one = bit (on && (v.mark || not c.is_some-own.result)) n c.number.ensures.bound in
-    let law = reach-on f later i mask p on inside here c.loop-p.invariant.mask in
+    let inside : i < length items = omega (arith, c.loop-i-test.true, c.slots-p-items.ensures.four, c.loop-i.auto.i-end) in
+    let here : n ≡ get_or items i 0 = c.number.ensures.value ∙ (c.p-item.is ∙ get_or_default items i c.p-item.result 0 inside) in
+    let one = bit (leb k i && ltb i end) n c.number.ensures.bound in
     record {
-      mask = law
-          ∙ (ap (λ (x : Version). mask + cond (on && (x.mark || not (is_own x))) (2 ^ p) 0 + cond (on && not (is_own x)) (powers (reached f (drop (i + 1) later))) 0) (sym c.version-version.ensures)
-          ∙ (ap (λ (own : Bool). mask + cond (on && (v.mark || not own)) (2 ^ p) 0 + cond (on && not own) (powers (reached f (drop (i + 1) later))) 0) (sym c.is_some-own.ensures)
-          ∙ (ap (λ (q : ℕ). mask + cond (on && (v.mark || not c.is_some-own.result)) (2 ^ q) 0 + cond (on && not c.is_some-own.result) (powers (reached f (drop (i + 1) later))) 0) (sym c.number.ensures.value)
-          ∙ ap (λ (b : ℕ). mask + b + cond (on && not c.is_some-own.result) (powers (reached f (drop (i + 1) later))) 0) (sym one.0))));
-      bound = omega (arith, c.loop-p.invariant.bound, one.0, one.1);
+      mask = ap (λ (b : ℕ). mask + b) one.0 ∙ (ap (λ (q : ℕ). mask + cond (leb k i && ltb i end) (2 ^ q) 0) here ∙ sum-on items k i end mask inside c.loop-i.invariant.mask);
+      bound = omega (arith, c.loop-i.invariant.bound, one.0, one.1);
     }
+
+pub returns : goal.returns
+returns c =
+    let s = c.args.self.now in
+    let ps = processors_of s in
+    let items = c.slots-p-items.result.now in
+    let k = c.args.k in
+    let end = c.match-owner_from.end in
+    let f : ℕ → Version = λ q. table_of s q c.args.sharers.address in
+    let over : 4 ≤ c.loop-i.i = omega (arith, c.loop-i-test.false, c.slots-p-items.ensures.four) in
+    let few : length ps ≤ 4 = omega (arith, c.requires.sharers.few, length-map ps f) in
+    let far : (end ≤ length ps) × (reached f (drop k ps) ≡ take (end - k) (drop k ps)) = elim c.match-owner_from.branch [
+      | in-Some w ↦
+          let law = reached-some f ps k c.requires.bound w.in-Some.place w.is_marked.result (w.in-Some.ensures (map f ps) c.requires.sharers) (w.is_marked.ensures (map f ps) c.requires.sharers) in
+          let byte = byte-is w.is_marked.result in
+          let is : w.in-Some.place + cond w.is_marked.result 1 0 ≡ end = omega (arith, w.end-is, byte.0) in
+          (omega (arith, is, byte.0, byte.1, law.0), law.1 ∙ ap (λ (n : ℕ). take (n - k) (drop k ps)) is)
+      | in-None w ↦
+          let is : length ps ≡ end = sym (w.end-is ∙ w.len-end.ensures.value) in
+          (omega (arith, is), reached-none f ps k c.requires.bound (w.in-None.ensures (map f ps) c.requires.sharers) ∙ ap (λ (n : ℕ). take (n - k) (drop k ps)) is)
+    ] in
+    let all : min c.loop-i.i end ≡ end = omega (arith, over, few, far.0) in
+    c.loop-i.invariant.mask ∙ (ap (λ (j : ℕ). powers (take (j - k) (drop k items))) all ∙ ap powers (slots-of items ps k end c.slots-p-items.ensures.first far.0 ∙ sym far.1))

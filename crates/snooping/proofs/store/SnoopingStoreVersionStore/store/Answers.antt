@@ -55,8 +55,8 @@ overflow_add-later g c =
     let at = at-processor c.args.p c.in_ok-p.p c.in_ok-p.k (λ (p : ℕ). access_place c.size.result ps (table_of s.caches) p c.args.a) c.in_ok-p.ensures in
     omega (arith, (placed ps c.in_ok-p.p c.in_ok-p.k (ok-access c.size.result ps (table_of s.caches) c.in_ok-p.p c.args.a c.in_ok-p.k at.1).0).within, few ps c.requires.apart)
 
-pub invalidated-mask-requires : goal.invalidated-mask-requires
-invalidated-mask-requires g c =
+pub invalidated-mask-requires-clause-bound : goal.invalidated-mask-requires-clause-bound
+invalidated-mask-requires-clause-bound g c =
     let s = c.args.self.now in
     let ps = processors_of s.caches in
     let at = at-processor c.args.p c.in_ok-p.p c.in_ok-p.k (λ (p : ℕ). access_place c.size.result ps (table_of s.caches) p c.args.a) c.in_ok-p.ensures in
@@ -139,7 +139,8 @@ returns g c =
     let n = c.squashed-hit.result in
     let line = c.line-line.ensures ∙ ap (lines_in s.caches c.in_ok-p.p) c.of.ensures in
     let mask : c.invalidated-mask.result ≡ powers (reached (λ q. table q c.args.a) (drop (suc k) ps)) =
-    c.invalidated-mask.ensures ∙ ap (λ (j : ℕ). powers (reached (λ q. table q c.args.a) (drop j ps))) (add-one k) in
+    c.invalidated-mask.ensures ∙ (ap (λ (b : ℕ). powers (reached (λ q. table q b) (drop (k + 1) ps))) c.sharers-sharers.ensures.address
+    ∙ ap (λ (j : ℕ). powers (reached (λ q. table q c.args.a) (drop j ps))) (add-one k)) in
     let test : (is_own (table c.in_ok-p.p c.args.a) && not (is_some (lines_in s.caches c.in_ok-p.p (c.args.a % 16)).next)) ≡ false =
     ap (λ (x : Line). is_own (version_at x c.args.a) && not (is_some x.next)) (sym line) ∙ (sym c.takes_store.ensures ∙ c.if-takes_store.false) in
     let cut = after-cut m.words s c.requires n c.cut_last.new.self.list c.cut_last.ensures.none c.cut_last.ensures.some in
