@@ -34,6 +34,11 @@ impl Tasks {
         requires few { length self.now.order ≤ 4 }
         ensures { result ≡ nearest_own (versions_at self.now a (take (k + 1) self.now.order)) }
     {
+        let own = self.version(self.order.at(k), a).own;
+        // Mostly it is the task's own.
+        if own.is_some() {
+            return own;
+        }
         self.nearest(k + 1, self.sharers(a))
             .and_then(|p| self.version(p, a).own)
     }

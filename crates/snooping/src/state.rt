@@ -6,13 +6,13 @@ ghost use Rattle.snooping.specs.States.{has_l, has_s, next_state};
 #[derive(Clone, Copy, PartialEq, Debug)]
 pub enum LineState {
     // Neither bit: the line holds nothing.
-    Invalid,
+    Invalid = 0,
     // L alone: a copy of another task's word or of the memory's.
-    Loaded,
+    Loaded = 1,
     // S alone: stored before any load.
-    Stored,
+    Stored = 2,
     // L and S: loaded, then stored.
-    Both,
+    Both = 3,
 }
 
 // What happens to a line: an access of its own processor, or the end of what it holds.
@@ -30,14 +30,14 @@ impl LineState {
     pub fn has_l(self) -> bool
         ensures { result ≡ has_l self }
     {
-        matches!(self, LineState::Loaded | LineState::Both)
+        (self as u8) & 1 == 1
     }
 
     // The bit S.
     pub fn has_s(self) -> bool
         ensures { result ≡ has_s self }
     {
-        matches!(self, LineState::Stored | LineState::Both)
+        (self as u8) & 2 == 2
     }
 
     // Goes on to the next state, in place. The table of states and events stands here as a whole.

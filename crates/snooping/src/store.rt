@@ -104,18 +104,14 @@ impl<M: Memory> VersionStore for SnoopingStore<M> {
         }
         // The invalidations go out before the tasks that they squash are gone.
         let later = k + 1;
-        let sharers = self.caches.sharers(a);
+        let mut sharers = self.caches.sharers(a);
         let mask = self.caches.invalidated(later, sharers);
         let hit = self.caches.squashed(later, sharers);
         self.caches.cut_last(hit);
         // The tasks that are gone share the address no more.
-        let left = if hit > 0 {
-            self.caches.sharers(a)
-        } else {
-            sharers
-        };
+        sharers.keep(self.caches.order().len());
         self.caches
-            .take_and_link(p, k, LineEvent::Store, a, w, left);
+            .take_and_link(p, k, LineEvent::Store, a, w, sharers);
         self.report = BusReport::bus_write(a, mask);
         Ok(hit as u32)
     }

@@ -1,23 +1,24 @@
 use Rattle.std.proofs.Common.{◌≡◌, ℕ, suc, ◌+◌, ◌-◌, map, take, subst, ◌%◌, true, false, not, ◌&&◌, List, length, drop, is_some, Err, sym, refl, ap, ◌∙◌, add-one, arith}
 use Rattle.std.proofs.lemmas.Result.{err_from_is_err_and}
-use Rattle.std.proofs.lemmas.List.{take_all}
+use Rattle.std.proofs.lemmas.List.{length-take-le, take-map}
+use Rattle.versions.specs.declared.version.Version.{Version}
 use Rattle.versions.specs.declared.turn.Turn.TheVariants.{Store}
 use Rattle.versions.specs.Orders.{place_in, Apart}
-use Rattle.versions.specs.Sharers.{SharersIn}
-use Rattle.versions.specs.Tables.{Table, access_place, with_processor}
+use Rattle.versions.specs.Sharers.{SharersOf, versions_of}
+use Rattle.versions.specs.Tables.{Table, without_all, access_place, with_processor}
 use Rattle.versions.specs.Versions.{is_own, squashed_by}
 use Rattle.versions.proofs.Judging.{load-agrees, ok-access, at-processor}
 use Rattle.versions.proofs.Ordering.{few, apart-take}
-use Rattle.versions.proofs.Serving.{hit-is}
+use Rattle.versions.proofs.Serving.{hit-is, kept-version}
 use Rattle.versions.proofs.Tabling.{placed, place-take, squashes-le}
 use Rattle.snooping.specs.declared.line.Line.{Line}
 use Rattle.snooping.specs.Caches.{lines_in, processors_of, table_of}
-use Rattle.snooping.specs.Grid.{LineTable, Linked, table_by, with_line, relinked}
+use Rattle.snooping.specs.Grid.{Linked, with_line, relinked}
 use Rattle.snooping.specs.Lines.{version_at, with_stored}
 use Rattle.snooping.specs.Report.{reached, powers}
+use Rattle.snooping.proofs.Holders.{same-column, take-place}
 use Rattle.snooping.proofs.Keeping.{laid-linked}
 use Rattle.snooping.proofs.Snooped.{took, took-refused, sound-pointing, turn-store-hit, turn-store-miss, after-cut, hit-parts}
-use Rattle.snooping.proofs.store.SnoopingStoreVersionStore.store.Goals.{then-hit-gt0, else-hit-gt0}
 use Rattle.snooping.proofs.store.SnoopingStoreVersionStore.store.Goals as goal
 
 -- how many tasks a store hits, by the sharers' address
@@ -105,19 +106,23 @@ take_and_link-requires-clause-place g c =
 
 pub take_and_link-requires-clause-sharers : goal.take_and_link-requires-clause-sharers
 take_and_link-requires-clause-sharers g c =
+    let m = g.M.Memory in
     let s = c.args.self.now in
     let ps = processors_of s.caches in
+    let table = table_of s.caches in
     let n = c.squashed-hit.result in
+    let i = length ps - n in
     let new = c.cut_last.new.self in
-    elim c.if-hit-gt0.branch [
-      | then-hit-gt0 w ↦ subst (SharersIn (processors_of new) (table_of new)) (sym w.left-is) w.sharers-left.ensures.tasks
-      | else-hit-gt0 w ↦
-          let none : n ≡ 0 = omega (arith, w.if-hit-gt0.false) in
-          let order : processors_of new ≡ ps = c.cut_last.ensures.order ∙ take_all (length ps - n) ps (omega (arith, none)) in
-          subst (SharersIn (processors_of new) (table_of new)) (sym w.left-is)
-          (subst (λ (l : List ℕ). SharersIn l (table_of new) c.sharers-sharers.result) (sym order)
-          (subst (λ (x : LineTable). SharersIn ps (table_by x) c.sharers-sharers.result) (sym (c.cut_last.ensures.none none)) c.sharers-sharers.ensures.tasks))
-    ]
+    let b = c.sharers-sharers.result.address in
+    let cut = after-cut m.words s c.requires n new.list c.cut_last.ensures.none c.cut_last.ensures.some in
+    let count : c.len.result ≡ i = c.len.ensures.value ∙ (ap length (c.order.ensures ∙ c.cut_last.ensures.order) ∙ length-take-le i ps (omega arith)) in
+    let same : versions_of table b (take i ps) ≡ versions_of (table_of new) b (take i ps) =
+    same-column (λ r. table r b) (λ r. without_all table (drop i ps) r b) (take i ps)
+    (λ r j at. sym (kept-version (m.words s.memory) ps table c.requires.apart c.requires.fits r j i b (take-place i ps r j at).0 (take-place i ps r j at).1 b)) ∙ ap (λ (t : Table). versions_of t b (take i ps)) (sym cut.1) in
+    let kept : take c.len.result (versions_of table b ps) ≡ versions_of (table_of new) b (processors_of new) =
+    ap (λ (j : ℕ). take j (versions_of table b ps)) count ∙ (take-map (λ q. table q b) i ps ∙ (same ∙ ap (versions_of (table_of new) b) (sym c.cut_last.ensures.order))) in
+    subst (λ (d : ℕ). SharersOf (versions_of (table_of new) d (processors_of new)) c.keep.new.self) (sym c.keep.ensures.address)
+    (subst (λ (vs : List Version). SharersOf vs c.keep.new.self) kept (c.keep.ensures.first (versions_of table b ps) c.sharers-sharers.ensures.tasks))
 
 pub take_and_link-requires-clause-linked : goal.take_and_link-requires-clause-linked
 take_and_link-requires-clause-linked g c =
