@@ -1,18 +1,16 @@
 // A set of classes of addresses. A task has few lines or rows: a store that keeps the set of their classes need not look at all sixteen.
 ghost use Rattle.std.specs.Prelude.{◌≡◌, ℕ, ◌<◌, true, false, ◌&&◌, ◌||◌, not, ◌==◌, Some, IfSome, IfNone};
+ghost use Rattle.versions.specs.ClassSets.{has, Lowest};
 
 use crate::processor::Class;
 
-// Class c is in the set where bit c is 1. (Of 32 bits, since a processor is slow with 16.)
+// Class c is in the set where bit c is 1.
 #[derive(Clone, Copy)]
 pub struct ClassSet {
-    bits: u32,
-    ghost sixteen: { bits < 65536 },
+    bits: u16,
 }
 
 impl ClassSet {
-    ghost use Rattle.versions.specs.ClassSets.{has, Lowest};
-
     // No class.
     pub fn new() -> ClassSet
         ensures { (c : ℕ) → has result c ≡ false }
