@@ -36,7 +36,8 @@ impl ClassSet {
             return None;
         }
         let c = self.bits.trailing_zeros();
-        self.bits &= !(1 << c);
+        // The number before has all bits but the lowest, and others below it.
+        self.bits &= self.bits - 1;
         Some(Class::of(c))
     }
 

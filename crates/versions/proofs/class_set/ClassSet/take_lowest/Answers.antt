@@ -1,6 +1,6 @@
 use Rattle.std.proofs.Common.{◌≡◌, ℕ, not, ◌&&◌, eqb, sym, ap, ◌∙◌, subst, arith}
 use Rattle.versions.specs.ClassSets.{Lowest}
-use Rattle.versions.proofs.ClassSets.{lowest, lowest_is, set_in, set-cleared, cleared-less}
+use Rattle.versions.proofs.ClassSets.{lowest, lowest_is, set_in, set-lowered, lowered-less}
 use Rattle.versions.proofs.class_set.ClassSet.take_lowest.Goals as goal
 
 pub returns-clause-lowest : goal.returns-clause-lowest
@@ -15,7 +15,7 @@ returns-clause-rest c d low =
     let n = c.args.self.now.bits in
     let law = lowest_is n (omega (arith, c.if-self-eq0.false)) (omega arith) in
     let same : c.of.result ≡ lowest n = omega (arith, c.of.ensures, law.0) in
-    set-cleared n (lowest n) d law.0 low ∙ ap (λ (i : ℕ). not (eqb d i) && set_in n d) (sym same)
+    set-lowered n (lowest n) d law.1 law.2 ∙ ap (λ (i : ℕ). not (eqb d i) && set_in n d) (sym same)
 
 pub returns-clause-fewer : goal.returns-clause-fewer
-returns-clause-fewer c = cleared-less c.args.self.now.bits (omega (arith, c.if-self-eq0.false)) (omega arith)
+returns-clause-fewer c = lowered-less c.args.self.now.bits (omega (arith, c.if-self-eq0.false))
