@@ -53,9 +53,8 @@ uint32_t model_central(uint32_t *words, size_t word_count, const model_command *
 
 /* Plays an image and a turn text as the programs play and central do, over 4,096 words that are 0, and writes the listing
  * into the caller's buffer. As the programs do, it looks at no more than the first 32,768 bytes of each. Returns the listing's
- * length; where that is above room, nothing is written. A listing has at most 116,744 bytes and at least one line, so that 0 is
- * never returned; by the contract it would mean that no listing could be made, and that nothing is written. About 200 kilobytes
- * of stack are used. No call allocates memory. */
+ * length, for every image and text; where that is above room, nothing is written. A listing has at least one line, so that 0 is
+ * never returned, and at most 116,744 bytes. About 200 kilobytes of stack are used. No call allocates memory. */
 size_t model_play_snooping(const uint8_t *image, size_t image_length, const uint8_t *text, size_t text_length,
                            uint8_t *listing, size_t room);
 size_t model_play_central(const uint8_t *image, size_t image_length, const uint8_t *text, size_t text_length,

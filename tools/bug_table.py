@@ -56,8 +56,6 @@ These were tried too. The prover passes them, since no contract can say more, an
 
 | Bug | Why no contract refuses it | What looks there |
 |---|---|---|
-| `model_play_central` gives 0 and writes nothing where the text is empty | a listing may be left out where writing a text fails, and no contract says when it does | `tools/compare.sh` plays empty texts, and compares the listing with the independent implementation's |
-| `MOST_LISTED` of `model` is 1,024: a longer listing is given as 0, with nothing written | the same | `tools/compare.sh` compares listings of up to 114,518 bytes |
 | `read_start` takes half as many bytes of a file as are asked for | what a file holds no contract can say; it promises that there are no more | `tools/program_cases.py` has files of more than 32,768 bytes |
 | `read_start` gives an error where there is no file | whether a file is there no contract can say | the test `a_missing_file_is_empty` of `files` |
 | `read_start` takes every error for a missing file | the same | the test `another_error_is_no_missing_file` of `files` |
