@@ -243,13 +243,15 @@ impl TaskTable for Caches {
     }
 }
 
-// Of each processor whether it has a task, and last false, for none. Looked up here, and not by the order's own search: a cut asks for each line.
+// Of each processor whether it has a task, and last false, for none. It stands in a table, since a cut asks for each line.
 fn running(order: &Order) -> [bool; 5]
     ensures { (q : ℕ) → slice_index_or result q false ≡ is_some (place_in order.now q) }
 {
-    let mut running = [false; 5];
-    for p in order.processors() {
-        running[p.index()] = true;
-    }
-    running
+    [
+        order.place(0).is_some(),
+        order.place(1).is_some(),
+        order.place(2).is_some(),
+        order.place(3).is_some(),
+        false,
+    ]
 }
