@@ -16,7 +16,8 @@ pub struct CentralBuffer<M> {
 
 impl<M: Memory> CentralBuffer<M> {
     // The word at a that the task at place k sees. k and a are bounded by the order and the memory, so by clauses: types for them
-    // would be no plainer.
+    // would be no plainer. It is always copied in, as `load` is.
+    #[inline(always)]
     fn seen(&mut self, k: usize, a: u32) -> Result<u32, Refusal>
         requires sound { M.Memory.sound self.old.memory }
         requires k_in_bounds { k < length self.old.tasks.order }

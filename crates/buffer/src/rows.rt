@@ -113,7 +113,7 @@ impl Set {
         if let Some(j) = self.address_place(a) {
             let row = &self.rows[j];
             for (k, p) in processors.iter().enumerate() {
-                sharers.add(k, row.version(*p));
+                sharers.add(k, row.version(*p).share());
             }
         }
         sharers

@@ -28,7 +28,8 @@ impl Tasks {
     }
 
     // The nearest own word at a, of the tasks up to place k. k is bounded by the order, so by a clause: a type for it would be no
-    // plainer.
+    // plainer. It is always copied in: a load has looked for the row already, and LLVM sees that it need not be looked for again.
+    #[inline(always)]
     pub fn nearest_own(&self, k: usize, a: u32) -> Option<u32>
         requires k_in_bounds { k < length self.now.order }
         requires few { length self.now.order ≤ 4 }
@@ -91,10 +92,21 @@ impl Tasks {
         version.mark | version.own.is_some()
     }
 
-    // The address of class c that p holds. It is called and not copied in: few loads and stores need it, and its code would only keep
-    // LLVM from copying in what all need.
-    #[inline(never)]
+    // The address of class c that p holds. Where it holds none, mostly its set of classes tells.
     fn held_apart(&self, p: Processor, c: Class) -> Option<u32>
+        ensures { HeldIn (table_of self.now p) c result }
+    {
+        if self.classes(p).contains(c) {
+            self.held_in_rows(p, c)
+        } else {
+            None
+        }
+    }
+
+    // The same, looked for in the rows. It is called and not copied in: few loads and stores need it, and its code would only keep LLVM from
+    // copying in what all need.
+    #[inline(never)]
+    fn held_in_rows(&self, p: Processor, c: Class) -> Option<u32>
         ensures { HeldIn (table_of self.now p) c result }
     {
         self.held(p, c)

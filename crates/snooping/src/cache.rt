@@ -2,6 +2,7 @@
 ghost use Rattle.std.specs.Prelude.{◌≡◌, ℕ, ◌%◌, ◌<◌, false, map, length, is_some, replicate, slice_index_or, slice_set};
 ghost use Rattle.versions.specs.ClassSets.{has};
 ghost use Rattle.versions.specs.Orders.{place_in};
+ghost use Rattle.versions.specs.Versions.{share_of};
 ghost use Rattle.snooping.specs.Lines.{blank, version_at, with_taken, with_next, ended, unlinked};
 
 use crate::line::Line;
@@ -36,6 +37,14 @@ impl Cache {
         ensures { result ≡ version_at (slice_index_or self.now.lines (a % 16) blank) a }
     {
         self.line(Class::of(a)).version(a)
+    }
+
+    // The same as two bits.
+    pub fn share(&self, a: u32) -> u32
+        ensures value { result ≡ share_of (version_at (slice_index_or self.now.lines (a % 16) blank) a) }
+        ensures bound { result < 4 }
+    {
+        self.line(Class::of(a)).share(a)
     }
 
     // Takes the word w of an access of a. (One line is lent inside the method, here and in those below.)

@@ -233,6 +233,11 @@ impl TaskTable for Caches {
         self.list[p.index()].version(a)
     }
 
+    // In place of the trait's, which would take a version apart again: most stores ask all four caches.
+    fn share(&self, p: Processor, a: u32) -> u32 {
+        self.list[p.index()].share(a)
+    }
+
     fn held(&self, p: Processor, c: Class) -> Option<u32> {
         let line = self.line(p, c);
         (line.state != LineState::Invalid).then_some(line.tag)

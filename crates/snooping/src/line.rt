@@ -1,7 +1,7 @@
 // One line of a processor's cache.
-ghost use Rattle.std.specs.Prelude.{◌≡◌, ℕ, false, not, ◌&&◌, is_some, slice_index_or};
+ghost use Rattle.std.specs.Prelude.{◌≡◌, ℕ, ◌<◌, false, not, ◌&&◌, is_some, slice_index_or};
 ghost use Rattle.versions.specs.Orders.{place_in};
-ghost use Rattle.versions.specs.Versions.{is_own};
+ghost use Rattle.versions.specs.Versions.{is_own, share_of};
 ghost use Rattle.snooping.specs.Lines.{blank, version_at, with_taken, with_next, ended, unlinked};
 
 use crate::state::{LineEvent, LineState};
@@ -40,6 +40,15 @@ impl Line {
             mark: same & self.state.has_l(),
             own: (same & self.state.has_s()).then_some(self.word),
         }
+    }
+
+    // The same as two bits, which are those of the state.
+    pub(crate) fn share(&self, a: u32) -> u32
+        ensures value { result ≡ share_of (version_at self.now a) }
+        ensures bound { result < 4 }
+    {
+        let same = self.tag == a;
+        self.state as u32 * same as u32
     }
 
     // Whether a store to a needs no bus: the line has an own word of a, and nobody later has a line for a.

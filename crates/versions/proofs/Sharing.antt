@@ -1,20 +1,19 @@
 -- The sharers of an address: what their bits say of the versions that they are of.
-use Rattle.std.proofs.Common.{◌≡◌, ℕ, zero, suc, ◌+◌, ◌-◌, ◌*◌, ◌/◌, ◌%◌, ◌^◌, ◌<◌, ◌≤◌, Bool, true, false, cond, ◌&&◌, ◌||◌, eqb, bit_and, bit_or, List, [], ◌∷◌, ◌++◌, map, length, get_or, drop, take, Some, None, Option, w32, sym, refl, ap, ◌∙◌, subst, ⊎_elim, arith}
-use mathlib.Core.Path.{fun_ext}
-use mir.Val.{bool_byte}
+use Rattle.std.proofs.Common.{◌≡◌, ℕ, zero, suc, ◌+◌, ◌-◌, ◌*◌, ◌/◌, ◌%◌, ◌^◌, ◌<◌, ◌≤◌, Bool, true, false, cond, ◌&&◌, ◌||◌, eqb, bit_and, bit_or, List, [], ◌∷◌, ◌++◌, map, length, get_or, drop, take, Some, None, w32, sym, refl, ap, ◌∙◌, subst, ⊎_elim, arith}
 use Rattle.std.specs.Int.{bit_at, trailing_zeros}
-use Rattle.std.proofs.Math.Nat.{div-div-eq-div-mul, div-eq_of_lt-le, div-le_self, pow-suc, zero-mul}
+use Rattle.std.proofs.Math.Nat.{div-div-eq-div-mul, div-eq_of_lt-le, div-le_self, pow-suc, mul_assoc, mul_comm}
 use Rattle.std.proofs.Math.ListN.{get_or-eq_default}
 use Rattle.std.specs.Option.{option_or}
 use Rattle.std.proofs.lemmas.List.{get_or-take, length-take, get_or-map, get_or_push, get_or_append_left, length_push, drop_all, drop_more, length-drop}
-use Rattle.std.proofs.lemmas.Nat.{one_shl, pow-add}
-use Rattle.std.proofs.lemmas.Bool.{eq-eqb, ne_eqb, cases_eq, cases_lt, true≢false}
-use Rattle.std.proofs.lemmas.Nat.Bits.{bit_at-lt, bit_at-zero, bit_at_and, bit_at_ones, bit_at_ones_above, bit_at-pow_same, bit_at-pow_other, bit_at_above, bit_at-trailing_zeros}
+use Rattle.std.proofs.lemmas.Nat.{pow-add, shl-shr, shl_whole}
+use Rattle.std.proofs.lemmas.Bool.{eq-eqb, cases_eq, cases_lt, true≢false}
+use Rattle.std.proofs.lemmas.Nat.Bits.{bit_at-lt, bit_at-zero, bit_at-suc, bit_at_lowest, bit_at_and, bit_at_ones, bit_at_ones_above, bit_at_above, bit_at-trailing_zeros}
+use Rattle.versions.specs.declared.sharers.Sharers.{Sharers}
 use Rattle.versions.specs.declared.version.Version.{Version}
-use Rattle.versions.specs.Sharers.{bit_set, LastBelow, FirstFrom, owns_at, holds_at}
+use Rattle.versions.specs.Sharers.{SharersOf, bit_set, LastBelow, FirstFrom, owns_at, holds_at}
 use Rattle.versions.specs.Tables.{last_that}
-use Rattle.versions.specs.Versions.{no_version, is_own, is_held, squashed_by}
-use Rattle.versions.proofs.ClassSets.{set-or}
+use Rattle.versions.specs.Versions.{no_version, is_own, is_held, share_of, squashed_by}
+use Rattle.versions.proofs.ClassSets.{set-or, set-and}
 
 -- ---- the bits below k, and those from k on
 
@@ -57,18 +56,7 @@ first-some n k fits some =
           ap (bit_set n) (sym on) ∙ (sym (high-bit n k (i - k)) ∙ ap (λ x. eqb x 1) (law.2 (i - k) (omega (arith, h, under)))),
     )
 
--- ---- the first versions alone
-
-pub flag-kept : (f : Version → Bool) → f no_version ≡ false → (n k : ℕ) (vs : List Version) → ((i : ℕ) → bit_set n i ≡ f (get_or vs i no_version)) → (i : ℕ)
-    → bit_set (bit_and n (2 ^ k - 1)) i ≡ f (get_or (take k vs) i no_version)
-flag-kept f none n k vs so_far i = ⊎_elim
-    (λ (h : i < k). low-bit n k i h ∙ (so_far i ∙ ap f (sym (get_or-take k vs i no_version h))))
-    (λ (h : k ≤ i).
-    let gone : bit_at (bit_and n (2 ^ k - 1)) i ≡ 0 = omega (arith, bit_at_and n (2 ^ k - 1) i, bit_at_ones_above k i h, bit_at-lt n i) in
-    ap (λ x. eqb x 1) gone ∙ (sym none ∙ ap f (sym (get_or-eq_default (take k vs) no_version (omega (arith, length-take k vs, h))))))
-    (cases_lt i k)
-
--- ---- one version more
+-- ---- of two flags, one that is known
 
 and-false : (x : Bool) → (x && false) ≡ false
 and-false true = refl
@@ -82,46 +70,144 @@ or-false : (x : Bool) → (x || false) ≡ x
 or-false true = refl
 or-false false = refl
 
-shifted : (t : Bool) (k : ℕ) → k < 32 → bool_byte t * 2 ^ k % 4294967296 ≡ cond t (2 ^ k) 0
-shifted true k h = one_shl k 32 h
-shifted false k h = ap (λ x. x % 4294967296) (zero-mul (2 ^ k))
+or-true : (x : Bool) → (x || true) ≡ true
+or-true true = refl
+or-true false = refl
 
-bit-pow : (t : Bool) (k i : ℕ) → bit_set (cond t (2 ^ k) 0) i ≡ (t && eqb i k)
-bit-pow true k i = ⊎_elim
-    (λ (e : i ≡ k). ap (bit_set (2 ^ k)) e ∙ (ap (λ x. eqb x 1) (bit_at-pow_same k) ∙ sym (eq-eqb i k e)))
-    (λ (e : i ≡ k → ⊥). ap (λ x. eqb x 1) (bit_at-pow_other k i e) ∙ sym (ne_eqb i k e))
-    (cases_eq i k)
-bit-pow false k i = ap (λ x. eqb x 1) (bit_at-zero i)
+-- ---- two bits for each place
 
-pub flag-more : (f : Version → Bool) → f no_version ≡ false → (n k : ℕ) (t : Bool) (vs : List Version) (v : Version) → k < 32 → length vs ≡ k → t ≡ f v
-    → ((i : ℕ) → bit_set n i ≡ f (get_or vs i no_version)) → (i : ℕ) → bit_set (bit_or n (bool_byte t * 2 ^ k % 4294967296)) i ≡ f (get_or (vs ++ v ∷ []) i no_version)
-flag-more f none n k t vs v room long t-is so_far i =
-    ap (λ m. bit_set (bit_or n m) i) (shifted t k room) ∙ (set-or n (cond t (2 ^ k) 0) i ∙ (ap (λ x. bit_set n i || x) (bit-pow t k i) ∙ (ap (λ x. x || (t && eqb i k)) (so_far i) ∙ cases)))
-  where
-    cases : (f (get_or vs i no_version) || (t && eqb i k)) ≡ f (get_or (vs ++ v ∷ []) i no_version)
-    cases = ⊎_elim
-        (λ (h : i < k).
-        ap (λ x. f (get_or vs i no_version) || (t && x)) (ne_eqb i k (λ e. omega (arith, e, h)))
-        ∙ (ap (λ x. f (get_or vs i no_version) || x) (and-false t) ∙ (or-false (f (get_or vs i no_version)) ∙ ap f (sym (get_or_append_left vs (v ∷ []) no_version i (omega (arith, long, h)))))))
-        (λ (h : k ≤ i).
-        ap (λ x. f x || (t && eqb i k)) (get_or-eq_default vs no_version (omega (arith, long, h))) ∙ (ap (λ x. x || (t && eqb i k)) none
-        ∙ ⊎_elim
-        (λ (e : i ≡ k). ap (λ x. t && x) (eq-eqb i k e) ∙ (and-true t ∙ (t-is ∙ ap f (sym (get_or_push vs v no_version i (omega (arith, long, e)))))))
-        (λ (e : i ≡ k → ⊥). ap (λ x. t && x) (ne_eqb i k e) ∙ (and-false t ∙ (sym none ∙ ap f (sym (get_or-eq_default (vs ++ v ∷ []) no_version (omega (arith, long, h, e, length_push vs v)))))))
-        (cases_eq i k)))
-        (cases_lt i k)
+pub half-even : (r : ℕ) → r % 2 ≡ 0 → 2 * (r / 2) ≡ r
+half-even r even = omega (arith, even)
 
--- ---- the tests of two rows of bits that say the same
+pub half-odd : (r : ℕ) → (r % 2 ≡ 0 → ⊥) → 2 * (r / 2) + 1 ≡ r
+half-odd r odd = omega (arith, odd)
 
-pub last-as : (f g : ℕ → Bool) (k : ℕ) (o : Option ℕ) → ((i : ℕ) → f i ≡ g i) → LastBelow f k o → LastBelow g k o
-last-as f g k o same h = subst (λ t. LastBelow t k o) (fun_ext same) h
+module _ (n : ℕ) (f g : ℕ → Bool) (low : (i : ℕ) → bit_set n (2 * i) ≡ f i) (high : (i : ℕ) → bit_set n (2 * i + 1) ≡ g i) where
+  either : (r : ℕ) → bit_set n r ≡ true → (f (r / 2) || g (r / 2)) ≡ true
+  either r set = ⊎_elim
+      (λ (e : r % 2 ≡ 0). ap (λ x. x || g (r / 2)) (sym (low (r / 2)) ∙ (ap (bit_set n) (half-even r e) ∙ set)))
+      (λ (e : r % 2 ≡ 0 → ⊥). ap (λ x. f (r / 2) || x) (sym (high (r / 2)) ∙ (ap (bit_set n) (half-odd r e) ∙ set)) ∙ or-true (f (r / 2)))
+      (cases_eq (r % 2) 0)
 
-pub first-as : (f g : ℕ → Bool) (k : ℕ) (o : Option ℕ) → ((i : ℕ) → f i ≡ g i) → FirstFrom f k o → FirstFrom g k o
-first-as f g k o same h = subst (λ t. FirstFrom t k o) (fun_ext same) h
+  neither : (i : ℕ) → bit_set n (2 * i) ≡ false → bit_set n (2 * i + 1) ≡ false → (f i || g i) ≡ false
+  neither i a b = ap (λ x. x || g i) (sym (low i) ∙ a) ∙ (sym (high i) ∙ b)
 
-pub held-as : (marks owns : ℕ) (vs : List Version) → ((i : ℕ) → bit_set marks i ≡ (get_or vs i no_version).mark) → ((i : ℕ) → bit_set owns i ≡ owns_at vs i)
-    → (i : ℕ) → bit_set (bit_or marks owns) i ≡ holds_at vs i
-held-as marks owns vs m o i = set-or marks owns i ∙ (ap (λ x. x || bit_set owns i) (m i) ∙ ap (λ x. (get_or vs i no_version).mark || x) (o i))
+  -- the last place below k with one of the two, and the first from k on
+  pub last-none-of : (k : ℕ) → LastBelow (bit_set n) (2 * k) None → LastBelow (λ i. f i || g i) k None
+  last-none-of k none i h = neither i (none (2 * i) (omega (arith, h))) (none (2 * i + 1) (omega (arith, h)))
+
+  pub last-of : (k r : ℕ) → LastBelow (bit_set n) (2 * k) (Some r) → LastBelow (λ i. f i || g i) k (Some (r / 2))
+  last-of k r last = (omega (arith, last.0), either r last.1, λ i above h. neither i (last.2 (2 * i) (omega (arith, above)) (omega (arith, h))) (last.2 (2 * i + 1) (omega (arith, above)) (omega (arith, h))))
+
+  pub first-none-of : (k : ℕ) → FirstFrom (bit_set n) (2 * k) None → FirstFrom (λ i. f i || g i) k None
+  first-none-of k none i h = neither i (none (2 * i) (omega (arith, h))) (none (2 * i + 1) (omega (arith, h)))
+
+  pub first-of : (k r : ℕ) → FirstFrom (bit_set n) (2 * k) (Some r) → FirstFrom (λ i. f i || g i) k (Some (r / 2))
+  first-of k r first = (omega (arith, first.0), either r first.1, λ i h under. neither i (first.2 (2 * i) (omega (arith, h)) (omega (arith, under))) (first.2 (2 * i + 1) (omega (arith, h)) (omega (arith, under))))
+
+-- the own words alone, of four places at most
+
+own-mask : (i : ℕ) → bit_set 170 (2 * i) ≡ false
+own-mask zero = refl
+own-mask (suc zero) = refl
+own-mask (suc (suc zero)) = refl
+own-mask (suc (suc (suc zero))) = refl
+own-mask (suc (suc (suc (suc i)))) = ap (λ x. eqb x 1) (bit_at_above 170 8 (2 * suc (suc (suc (suc i)))) (omega arith) (omega arith))
+
+own-bits : (i : ℕ) → i < 4 → bit_set 170 (2 * i + 1) ≡ true
+own-bits zero h = refl
+own-bits (suc zero) h = refl
+own-bits (suc (suc zero)) h = refl
+own-bits (suc (suc (suc zero))) h = refl
+own-bits (suc (suc (suc (suc i)))) h = absurd (omega (arith, h))
+
+pub no-marks : (n i : ℕ) → bit_set (bit_and n 170) (2 * i) ≡ false
+no-marks n i = set-and n 170 (2 * i) ∙ (ap (λ x. bit_set n (2 * i) && x) (own-mask i) ∙ and-false (bit_set n (2 * i)))
+
+pub owns-left : (n : ℕ) (vs : List Version) → length vs ≤ 4 → ((i : ℕ) → bit_set n (2 * i + 1) ≡ owns_at vs i) → (i : ℕ) → bit_set (bit_and n 170) (2 * i + 1) ≡ owns_at vs i
+owns-left n vs few owns i = set-and n 170 (2 * i + 1) ∙ (ap (λ x. x && bit_set 170 (2 * i + 1)) (owns i) ∙ ⊎_elim
+    (λ (h : i < 4). ap (λ x. owns_at vs i && x) (own-bits i h) ∙ and-true (owns_at vs i))
+    (λ (h : 4 ≤ i).
+    let none : owns_at vs i ≡ false = ap is_own (get_or-eq_default vs no_version (omega (arith, few, h))) in
+    ap (λ x. x && bit_set 170 (2 * i + 1)) none ∙ sym none)
+    (cases_lt i 4))
+
+-- ---- the first versions alone
+
+module _ (f : Version → Bool) (none : f no_version ≡ false) (at : ℕ → ℕ) where
+  pub flag-kept : (n k : ℕ) (vs : List Version) → ((i : ℕ) → i < k → at i < 2 * k) → ((i : ℕ) → k ≤ i → 2 * k ≤ at i) → ((i : ℕ) → bit_set n (at i) ≡ f (get_or vs i no_version)) → (i : ℕ)
+      → bit_set (bit_and n (2 ^ (2 * k) - 1)) (at i) ≡ f (get_or (take k vs) i no_version)
+  flag-kept n k vs under over so_far i = ⊎_elim
+      (λ (h : i < k). low-bit n (2 * k) (at i) (under i h) ∙ (so_far i ∙ ap f (sym (get_or-take k vs i no_version h))))
+      (λ (h : k ≤ i).
+      let gone : bit_at (bit_and n (2 ^ (2 * k) - 1)) (at i) ≡ 0 = omega (arith, bit_at_and n (2 ^ (2 * k) - 1) (at i), bit_at_ones_above (2 * k) (at i) (over i h), bit_at-lt n (at i)) in
+      ap (λ x. eqb x 1) gone ∙ (sym none ∙ ap f (sym (get_or-eq_default (take k vs) no_version (omega (arith, length-take k vs, h))))))
+      (cases_lt i k)
+
+-- ---- one version more
+
+-- the bits of a number that is moved up by m places
+double : (s m : ℕ) → s * 2 ^ suc m ≡ 2 * (s * 2 ^ m)
+double s m = ap (λ x. s * x) (pow-suc 2 m) ∙ (sym (mul_assoc s (2 ^ m) 2) ∙ mul_comm (s * 2 ^ m) 2)
+
+moved-below : (s m i : ℕ) → i < m → bit_at (s * 2 ^ m) i ≡ 0
+moved-below s zero i h = absurd (omega (arith, h))
+moved-below s (suc m) zero h = bit_at_lowest (s * 2 ^ suc m) ∙ omega (arith, double s m)
+moved-below s (suc m) (suc i) h =
+    let halved : s * 2 ^ suc m / 2 ≡ s * 2 ^ m = omega (arith, double s m) in
+    bit_at-suc (s * 2 ^ suc m) i ∙ (ap (λ x. bit_at x i) halved ∙ moved-below s m i (omega (arith, h)))
+
+moved-up : (s m j : ℕ) → bit_at (s * 2 ^ m) (m + j) ≡ bit_at s j
+moved-up s m j = ap (λ x. x % 2) (ap (λ x. s * 2 ^ m / x) (pow-add 2 m j) ∙ (sym (div-div-eq-div-mul (s * 2 ^ m) (2 ^ m) (2 ^ j)) ∙ ap (λ x. x / 2 ^ j) (shl-shr s m)))
+
+-- the two bits of a version
+low-of : (m o : Bool) → bit_set (cond m 1 0 + cond o 2 0) 0 ≡ m
+low-of true true = refl
+low-of true false = refl
+low-of false true = refl
+low-of false false = refl
+
+high-of : (m o : Bool) → bit_set (cond m 1 0 + cond o 2 0) 1 ≡ o
+high-of true true = refl
+high-of true false = refl
+high-of false true = refl
+high-of false false = refl
+
+pub share-mark : (v : Version) → bit_set (share_of v) 0 ≡ v.mark
+share-mark v = low-of v.mark (is_own v)
+
+pub share-own : (v : Version) → bit_set (share_of v) 1 ≡ is_own v
+share-own v = high-of v.mark (is_own v)
+
+-- f is the mark or the own word, whose bit is bit b of a version's two
+module _ (f : Version → Bool) (none : f no_version ≡ false) (b : ℕ) (two : b < 2) (is : (v : Version) → bit_set (share_of v) b ≡ f v) where
+  pub flag-more : (n k s : ℕ) (vs : List Version) (v : Version) → k < 4 → s < 4 → length vs ≡ k → s ≡ share_of v
+      → ((i : ℕ) → bit_set n (2 * i + b) ≡ f (get_or vs i no_version)) → (i : ℕ) → bit_set (bit_or n (s * 2 ^ (2 * k) % 4294967296)) (2 * i + b) ≡ f (get_or (vs ++ v ∷ []) i no_version)
+  flag-more n k s vs v room fits long s-is so_far i =
+      ap (λ m. bit_set (bit_or n m) (2 * i + b)) (shl_whole s 2 (2 * k) 32 fits (omega (arith, room)))
+      ∙ (set-or n (s * 2 ^ (2 * k)) (2 * i + b) ∙ (ap (λ x. x || bit_set (s * 2 ^ (2 * k)) (2 * i + b)) (so_far i) ∙ cases))
+    where
+      cases : (f (get_or vs i no_version) || bit_set (s * 2 ^ (2 * k)) (2 * i + b)) ≡ f (get_or (vs ++ v ∷ []) i no_version)
+      cases = ⊎_elim
+          (λ (h : i < k).
+          ap (λ x. f (get_or vs i no_version) || eqb x 1) (moved-below s (2 * k) (2 * i + b) (omega (arith, two, h)))
+          ∙ (or-false (f (get_or vs i no_version)) ∙ ap f (sym (get_or_append_left vs (v ∷ []) no_version i (omega (arith, long, h))))))
+          (λ (h : k ≤ i).
+          let on : 2 * i + b ≡ 2 * k + (2 * (i - k) + b) = omega (arith, h) in
+          ap (λ x. f x || bit_set (s * 2 ^ (2 * k)) (2 * i + b)) (get_or-eq_default vs no_version (omega (arith, long, h)))
+          ∙ (ap (λ x. x || bit_set (s * 2 ^ (2 * k)) (2 * i + b)) none
+          ∙ (ap (bit_set (s * 2 ^ (2 * k))) on ∙ (ap (λ x. eqb x 1) (moved-up s (2 * k) (2 * (i - k) + b)) ∙ here h))))
+          (cases_lt i k)
+        where
+          here : k ≤ i → bit_set s (2 * (i - k) + b) ≡ f (get_or (vs ++ v ∷ []) i no_version)
+          here h = ⊎_elim
+              (λ (e : i ≡ k).
+              let low : 2 * (i - k) + b ≡ b = omega (arith, e) in
+              ap (bit_set s) low ∙ (ap (λ x. bit_set x b) s-is ∙ (is v ∙ ap f (sym (get_or_push vs v no_version i (omega (arith, long, e)))))))
+              (λ (e : i ≡ k → ⊥).
+              ap (λ x. eqb x 1) (bit_at_above s 2 (2 * (i - k) + b) fits (omega (arith, h, e)))
+              ∙ (sym none ∙ ap f (sym (get_or-eq_default (vs ++ v ∷ []) no_version (omega (arith, long, h, e, length_push vs v))))))
+              (cases_eq i k)
 
 -- ---- what a store squashes
 
@@ -176,6 +262,23 @@ module _ (vs : List Version) where
       pass (i - k) k i (omega (arith, first.0)) (omega (arith, inside)) (λ d a b. low d a (omega (arith, b))) first.2 ∙ (ap squashed_by (drop_more vs i no_version inside)
       ∙ (ap (λ t. cond t (suc (length (drop (i + 1) vs))) (cond (owns_at vs i) 0 (squashed_by (drop (i + 1) vs)))) (low i first.0 (omega arith))
       ∙ ap (λ t. cond t 0 (squashed_by (drop (i + 1) vs))) first.1))
+
+-- the first bit from that of place k on decides
+pub shares-none : (vs : List Version) (s : Sharers) → SharersOf vs s → (k : ℕ) → FirstFrom (bit_set s.shares) (2 * k) None → squashed_by (drop k vs) ≡ 0
+shares-none vs s is k none = squash-none vs k (length vs) (omega arith) (λ i h. sym (is.marks i) ∙ none (2 * i) (omega (arith, h)))
+
+pub shares-mark : (vs : List Version) (s : Sharers) → SharersOf vs s → (k r : ℕ) → r % 2 ≡ 0 → FirstFrom (bit_set s.shares) (2 * k) (Some r)
+    → (r / 2 < length vs) × (squashed_by (drop k vs) ≡ length vs - r / 2)
+shares-mark vs s is k r even first =
+    squash-some vs k (r / 2)
+    (omega (arith, first.0), sym (is.marks (r / 2)) ∙ (ap (bit_set s.shares) (half-even r even) ∙ first.1), λ i h under. sym (is.marks i) ∙ first.2 (2 * i) (omega (arith, h)) (omega (arith, under)))
+    (λ i h under. sym (is.owns i) ∙ first.2 (2 * i + 1) (omega (arith, h)) (omega (arith, under)))
+
+pub shares-own : (vs : List Version) (s : Sharers) → SharersOf vs s → (k r : ℕ) → (r % 2 ≡ 0 → ⊥) → FirstFrom (bit_set s.shares) (2 * k) (Some r) → squashed_by (drop k vs) ≡ 0
+shares-own vs s is k r odd first =
+    squash-hidden vs k (r / 2)
+    (omega (arith, first.0), sym (is.owns (r / 2)) ∙ (ap (bit_set s.shares) (half-odd r odd) ∙ first.1), λ i h under. sym (is.owns i) ∙ first.2 (2 * i + 1) (omega (arith, h)) (omega (arith, under)))
+    (λ i h under. sym (is.marks i) ∙ first.2 (2 * i) (omega (arith, h)) (omega (arith, under, odd)))
 
 -- ---- a place, and the processor there
 

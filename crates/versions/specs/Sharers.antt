@@ -1,5 +1,5 @@
--- What the active tasks have at one address: a bit for each, by its place in the order.
-use Rattle.std.specs.Prelude.{◌≡◌, ℕ, ◌-◌, ◌<◌, ◌≤◌, Bool, true, false, List, map, length, drop, get_or, Some, None, Option, ◌==◌}
+-- What the active tasks have at one address: two bits for each, by its place in the order.
+use Rattle.std.specs.Prelude.{◌≡◌, ℕ, ◌+◌, ◌-◌, ◌*◌, ◌<◌, ◌≤◌, Bool, true, false, List, map, length, drop, get_or, Some, None, Option, ◌==◌}
 use Rattle.std.specs.Int.{bit_at}
 use Rattle.versions.specs.declared.sharers.Sharers.{Sharers}
 use Rattle.versions.specs.declared.version.Version.{Version}
@@ -29,8 +29,8 @@ holds_at vs i = is_held (get_or vs i no_version)
 -- the sharers are those of at most four versions
 pub record SharersOf (vs : List Version) (s : Sharers) : Type 0 where
   pub few : length vs ≤ 4
-  pub marks : (i : ℕ) → bit_set s.marks i ≡ (get_or vs i no_version).mark
-  pub owns : (i : ℕ) → bit_set s.owns i ≡ owns_at vs i
+  pub marks : (i : ℕ) → bit_set s.shares (2 * i) ≡ (get_or vs i no_version).mark
+  pub owns : (i : ℕ) → bit_set s.shares (2 * i + 1) ≡ owns_at vs i
 
 -- a store squashes the tasks from this place on, where it squashes any of those from k on
 abbrev pub SquashedFrom : List Version → ℕ → Option ℕ → Type 0

@@ -1,6 +1,6 @@
 -- What one task has at one address, and what follows from the versions of one address in task order. There is no
 -- address and no processor in here: every store speaks of an address through its column of versions.
-use Rattle.std.specs.Prelude.{ℕ, suc, Bool, false, cond, not, ◌||◌, List, [], ◌∷◌, length, is_some, Some, None, Option}
+use Rattle.std.specs.Prelude.{ℕ, suc, ◌+◌, Bool, false, cond, not, ◌||◌, List, [], ◌∷◌, length, is_some, Some, None, Option}
 use Rattle.std.specs.Option.{unwrap_or, option_or}
 use Rattle.versions.specs.declared.version.Version.{Version}
 
@@ -13,6 +13,10 @@ is_own v = is_some v.own
 -- the task holds the address
 abbrev pub is_held : Version → Bool
 is_held v = v.mark || is_own v
+
+-- both as a number of two bits: 1 for the mark, 2 for an own word
+abbrev pub share_of : Version → ℕ
+share_of v = cond v.mark 1 0 + cond (is_own v) 2 0
 
 -- after a load: marked, unless the word is the task's own
 abbrev pub with_load : Version → Version

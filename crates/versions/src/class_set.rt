@@ -25,6 +25,13 @@ impl ClassSet {
         self.bits |= 1 << c.index();
     }
 
+    // Whether class c is in.
+    pub fn contains(self, c: Class) -> bool
+        ensures { result ≡ has self c }
+    {
+        (self.bits >> c.index()) & 1 == 1
+    }
+
     // Takes the lowest class out, if there is one.
     pub fn take_lowest(&mut self) -> Option<Class>
         ensures none { IfNone result ((c : ℕ) → c < 16 → has self.old c ≡ false) }

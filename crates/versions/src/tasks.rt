@@ -5,7 +5,7 @@ ghost use Rattle.versions.specs.ClassSets.{has};
 ghost use Rattle.versions.specs.Plain.{holds_class};
 ghost use Rattle.versions.specs.Tables.{Table, task_by, Fitting, HeldIn, last_that, with_processor, start_place, active_place, access_place, squash_place, commit_place, replace_place};
 ghost use Rattle.versions.specs.Sharers.{SharersIn};
-ghost use Rattle.versions.specs.Versions.{is_own, squashed_by};
+ghost use Rattle.versions.specs.Versions.{is_own, share_of, squashed_by};
 
 use crate::class_set::ClassSet;
 use crate::order::Order;
@@ -28,6 +28,14 @@ pub trait TaskTable {
     // p's version of a.
     fn version(&self, p: Processor, a: u32) -> Version
         ensures { result ≡ table self.now p a };
+
+    // What p has at a, as two bits.
+    fn share(&self, p: Processor, a: u32) -> u32
+        ensures value { result ≡ share_of (table self.now p a) }
+        ensures bound { result < 4 }
+    {
+        self.version(p, a).share()
+    }
 
     // The address of class c that p holds.
     fn held(&self, p: Processor, c: Class) -> Option<u32>
@@ -52,7 +60,7 @@ pub trait TaskTable {
     {
         let mut sharers = Sharers::new(a);
         for (k, p) in self.order().slots().iter().enumerate() {
-            sharers.add(k, self.version(*p, a));
+            sharers.add(k, self.share(*p, a));
         }
         sharers.keep(self.order().len());
         sharers

@@ -1,6 +1,6 @@
 // What one task has at one address, and what follows from the versions of one address in task order.
-ghost use Rattle.std.specs.Prelude.{◌≡◌, ℕ};
-ghost use Rattle.versions.specs.Versions.{no_version, is_held, with_load, with_store};
+ghost use Rattle.std.specs.Prelude.{◌≡◌, ℕ, ◌<◌};
+ghost use Rattle.versions.specs.Versions.{no_version, is_held, share_of, with_load, with_store};
 
 // The mark says that the task has loaded here, since it last dropped the address, while it had no own word here; the own
 // word is what it stored last.
@@ -26,6 +26,14 @@ impl Version {
         ensures { result ≡ is_held self }
     {
         self.mark || self.own.is_some()
+    }
+
+    // Its mark and whether it has an own word, as two bits of a number.
+    pub fn share(self) -> u32
+        ensures value { result ≡ share_of self }
+        ensures bound { result < 4 }
+    {
+        (self.mark as u32) | (self.own.is_some() as u32) << 1
     }
 
     // After a load: marked, unless the word is the task's own.

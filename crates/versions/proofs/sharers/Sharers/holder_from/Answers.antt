@@ -1,7 +1,11 @@
-use Rattle.std.proofs.Common.{bit_or}
-use Rattle.versions.specs.Sharers.{bit_set, holds_at}
-use Rattle.versions.proofs.Sharing.{first-as, held-as}
+use Rattle.std.proofs.Common.{sym, subst}
+use Rattle.versions.specs.Sharers.{FirstFrom, owns_at, holds_at}
+use Rattle.versions.proofs.Sharing.{first-none-of, first-of, marked}
 use Rattle.versions.proofs.sharers.Sharers.holder_from.Goals as goal
 
+pub returns-in_err-bit : goal.returns-in_err-bit
+returns-in_err-bit c vs s =
+    subst (FirstFrom (holds_at vs) c.args.k) (sym c.from_residual.ensures) (first-none-of c.args.self.shares (marked vs) (owns_at vs) s.marks s.owns c.args.k c.in_err-bit.ensures)
+
 pub returns : goal.returns
-returns c vs s = first-as (bit_set (bit_or c.args.self.marks c.args.self.owns)) (holds_at vs) c.args.k c.first_from.result (held-as c.args.self.marks c.args.self.owns vs s.marks s.owns) c.first_from.ensures
+returns c vs s = first-of c.args.self.shares (marked vs) (owns_at vs) s.marks s.owns c.args.k c.in_ok-bit.bit c.in_ok-bit.ensures

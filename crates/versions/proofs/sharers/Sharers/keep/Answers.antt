@@ -1,4 +1,4 @@
-use Rattle.std.proofs.Common.{◌-◌, ℕ, bit_and, refl, ap, ◌∙◌, arith}
+use Rattle.std.proofs.Common.{◌-◌, ◌*◌, ◌+◌, ℕ, bit_and, refl, ap, ◌∙◌, arith}
 use Rattle.std.proofs.lemmas.List.{length-take}
 use Rattle.std.proofs.lemmas.Nat.{one_shl}
 use Rattle.versions.specs.declared.version.Version.{Version}
@@ -10,8 +10,11 @@ use Rattle.versions.proofs.sharers.Sharers.keep.Goals as goal
 pub returns-clause-first : goal.returns-clause-first
 returns-clause-first c vs s =
     let n = c.args.n in
-    let mask = one_shl n 32 (omega arith) in record {
+    let bits = c.args.self.now.shares in
+    let mask = one_shl (2 * n) 32 (omega arith) in record {
       few = omega (arith, length-take n vs, s.few);
-      marks = λ i. ap (λ (m : ℕ). bit_set (bit_and c.args.self.now.marks (m - 1)) i) mask ∙ flag-kept (λ (x : Version). x.mark) refl c.args.self.now.marks n vs s.marks i;
-      owns = λ i. ap (λ (m : ℕ). bit_set (bit_and c.args.self.now.owns (m - 1)) i) mask ∙ flag-kept is_own refl c.args.self.now.owns n vs s.owns i;
+      marks = λ i. ap (λ (m : ℕ). bit_set (bit_and bits (m - 1)) (2 * i)) mask
+          ∙ flag-kept (λ (x : Version). x.mark) refl (λ j. 2 * j) bits n vs (λ j h. omega (arith, h)) (λ j h. omega (arith, h)) s.marks i;
+      owns = λ i. ap (λ (m : ℕ). bit_set (bit_and bits (m - 1)) (2 * i + 1)) mask
+          ∙ flag-kept is_own refl (λ j. 2 * j + 1) bits n vs (λ j h. omega (arith, h)) (λ j h. omega (arith, h)) s.owns i;
     }

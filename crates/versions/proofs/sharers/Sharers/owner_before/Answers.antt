@@ -1,6 +1,15 @@
-use Rattle.versions.specs.Sharers.{bit_set, owns_at}
-use Rattle.versions.proofs.Sharing.{last-as}
+use Rattle.std.proofs.Common.{false, bit_and, sym, subst}
+use Rattle.versions.specs.Sharers.{LastBelow, owns_at}
+use Rattle.versions.proofs.Sharing.{last-none-of, last-of, no-marks, owns-left}
 use Rattle.versions.proofs.sharers.Sharers.owner_before.Goals as goal
 
+pub returns-in_err-bit : goal.returns-in_err-bit
+returns-in_err-bit c vs s =
+    let n = c.args.self.shares in
+    subst (LastBelow (owns_at vs) c.args.k) (sym c.from_residual.ensures)
+    (last-none-of (bit_and n 170) (λ i. false) (owns_at vs) (no-marks n) (owns-left n vs s.few s.owns) c.args.k c.in_err-bit.ensures)
+
 pub returns : goal.returns
-returns c vs s = last-as (bit_set c.args.self.owns) (owns_at vs) c.args.k c.last_below.result s.owns c.last_below.ensures
+returns c vs s =
+    let n = c.args.self.shares in
+    last-of (bit_and n 170) (λ i. false) (owns_at vs) (no-marks n) (owns-left n vs s.few s.owns) c.args.k c.in_ok-bit.bit c.in_ok-bit.ensures
