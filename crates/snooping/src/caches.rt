@@ -183,9 +183,10 @@ impl Caches {
         requires sharers { SharersIn (processors_of self.now) (table_of self.now) sharers }
         ensures { result ≡ powers (reached (λ q. table_of self.now q sharers.address) (drop k (processors_of self.now))) }
     {
+        let active = self.order.len();
         let end = match sharers.owner_from(k) {
             Some(place) => place + sharers.is_marked(place) as usize,
-            None => self.order.len(),
+            None => active,
         };
         let mut mask = 0;
         for (i, p) in self.order.slots().iter().enumerate() {

@@ -40,7 +40,7 @@ returns c =
           let is : w.in-Some.place + cond w.is_marked.result 1 0 ≡ end = omega (arith, w.end-is, byte.0) in
           (omega (arith, is, byte.0, byte.1, law.0), law.1 ∙ ap (λ (n : ℕ). take (n - k) (drop k ps)) is)
       | in-None w ↦
-          let is : length ps ≡ end = sym (w.end-is ∙ w.len-end.ensures.value) in
+          let is : length ps ≡ end = sym (w.end-is ∙ c.len-active.ensures.value) in
           (omega (arith, is), reached-none f ps k c.requires.bound (w.in-None.ensures (map f ps) c.requires.sharers) ∙ ap (λ (n : ℕ). take (n - k) (drop k ps)) is)
     ] in
     let all : min c.loop-i.i end ≡ end = omega (arith, over, few, far.0) in
