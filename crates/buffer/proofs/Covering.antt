@@ -7,11 +7,11 @@ use Rattle.std.proofs.lemmas.Bool.Decides.{nat_tests}
 use Rattle.buffer.specs.declared.rows.Row.{Row}
 use Rattle.versions.specs.declared.class_set.ClassSet.{ClassSet}
 use Rattle.versions.specs.declared.version.Version.{Version}
-use Rattle.versions.specs.ClassSets.{has}
+use Rattle.versions.specs.ClassSets.{has, no_class}
 use Rattle.versions.specs.Versions.{no_version, is_held}
 use Rattle.versions.specs.Tables.{Table, empty_table, with_version, without}
 use Rattle.versions.proofs.Classes.{unheld-none}
-use Rattle.buffer.specs.Sets.{in_sets, no_class, Covered}
+use Rattle.buffer.specs.Sets.{in_sets, Covered}
 
 pub covered-new : (classes : List ClassSet) (sets : List (List Row)) → length classes ≡ 4 → in_sets sets ≡ empty_table → Covered classes sets
 covered-new classes sets long none = record { count = long; all = λ p b l h. absurd (true≢false (sym h ∙ ap (λ (t : Table). is_held (t p b)) none)) }

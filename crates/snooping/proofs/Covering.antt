@@ -2,13 +2,13 @@
 use Rattle.std.proofs.Common.{◌≡◌, ℕ, ◌<◌, ◌≤◌, Bool, true, false, cond, ◌&&◌, ◌||◌, eqb, List, map, get_or, set, replicate, is_some, Some, None, Option, ⊎_elim, sym, refl, ap, ◌∙◌, arith}
 use Rattle.std.proofs.lemmas.List.{length-set}
 use Rattle.std.proofs.lemmas.Bool.{eqb-true, cases_lt, true≢false}
-use Rattle.versions.specs.ClassSets.{has}
+use Rattle.versions.specs.ClassSets.{has, no_class}
 use Rattle.versions.specs.declared.class_set.ClassSet.{ClassSet}
 use Rattle.versions.specs.Orders.{place_in}
 use Rattle.versions.specs.Versions.{is_held}
 use Rattle.snooping.specs.declared.cache.Cache.{Cache}
 use Rattle.snooping.specs.declared.line.Line.{Line}
-use Rattle.snooping.specs.Grid.{no_cache, no_class, line_in, Wide, Covered, Pointing}
+use Rattle.snooping.specs.Grid.{no_cache, line_in, Wide, Covered, Pointing}
 use Rattle.snooping.specs.Lines.{blank, version_in, with_next, pointer_to, unlinked}
 use Rattle.snooping.proofs.Grids.{at_set, past-blank, cache-mapped, line-changed, new-lines}
 
