@@ -1,17 +1,15 @@
 -- Laws of the sets of classes beside the rows: a processor holds nothing of a class outside its set, whatever is put or cleared.
 use Rattle.std.proofs.Common.{◌≡◌, ℕ, ◌%◌, ◌<◌, Bool, true, false, cond, not, ◌&&◌, ◌||◌, eqb, ◌≢◌, List, length, get_or, set, sym, refl, ap, ◌∙◌, ⊎_elim, arith}
-use mathlib.Core.Path.{fun_ext}
 use Rattle.std.proofs.lemmas.List.{length-set, get_or-set_same, get_or-set_other}
-use Rattle.std.proofs.lemmas.Bool.{eqb-true, eq-eqb, ne_eqb, cases_eq, cond-false, true≢false}
+use Rattle.std.proofs.lemmas.Bool.{eq-eqb, ne_eqb, cases_eq, cond-false, true≢false}
 use Rattle.std.proofs.lemmas.Bool.Decides.{nat_tests}
 use Rattle.buffer.specs.declared.rows.Row.{Row}
 use Rattle.versions.specs.declared.class_set.ClassSet.{ClassSet}
 use Rattle.versions.specs.declared.version.Version.{Version}
-use Rattle.versions.specs.ClassSets.{has}
+use Rattle.versions.specs.ClassSets.{has, no_class}
 use Rattle.versions.specs.Versions.{no_version, is_held}
-use Rattle.versions.specs.Tables.{Table, empty_table, with_version, without}
-use Rattle.versions.proofs.Classes.{unheld-none}
-use Rattle.buffer.specs.Sets.{in_sets, no_class, Covered}
+use Rattle.versions.specs.Tables.{Table, empty_table, with_version}
+use Rattle.buffer.specs.Sets.{in_sets, Covered}
 
 pub covered-new : (classes : List ClassSet) (sets : List (List Row)) → length classes ≡ 4 → in_sets sets ≡ empty_table → Covered classes sets
 covered-new classes sets long none = record { count = long; all = λ p b l h. absurd (true≢false (sym h ∙ ap (λ (t : Table). is_held (t p b)) none)) }
@@ -56,35 +54,11 @@ covered-less classes sets later f is g = record { count = g.count; all = λ q b 
     go q b true h = absurd (true≢false (sym h))
     go q b false h = h
 
--- p's set may be emptied where p holds nothing
-pub covered-out : (classes : List ClassSet) (sets : List (List Row)) (i p : ℕ) (s : ClassSet) → i ≡ p → Covered classes sets → ((b : ℕ) → in_sets sets p b ≡ no_version) → Covered (set classes i s) sets
-covered-out classes sets i p s place g none = record {
-  count = length-set classes i s ∙ g.count;
-  all = λ q b l h.
-      ⊎_elim
-      (λ (e : q ≡ i). absurd (true≢false (sym h ∙ (ap (λ (k : ℕ). is_held (in_sets sets k b)) (e ∙ place) ∙ ap is_held (none b)))))
-      (λ (ne : q ≢ i). ap (λ (t : ClassSet). has t (b % 16)) (get_or-set_other classes i q s no_class ne) ∙ g.all q b l h)
-      (cases_eq q i);
-}
-
 -- of p's versions in a table, those of the classes that are not in a set are taken out
 abbrev pub ClearedBut : ClassSet → Table → ℕ → Table → Type 0
 ClearedBut left first p later = (q b : ℕ) → later q b ≡ cond (eqb q p && not (has left (b % 16))) no_version (first q b)
 
--- to clear p's rows: at first all of its classes are left
-pub cleared-none : (classes : List ClassSet) (sets : List (List Row)) (p : ℕ) → p < 4 → Covered classes sets → ClearedBut (get_or classes p no_class) (in_sets sets) p (in_sets sets)
-cleared-none classes sets p l g q b = go (eqb q p) refl (has (get_or classes p no_class) (b % 16)) refl
-  where
-    go : (t : Bool) → eqb q p ≡ t → (s : Bool) → has (get_or classes p no_class) (b % 16) ≡ s → in_sets sets q b ≡ cond (t && not s) no_version (in_sets sets q b)
-    go true e true h = refl
-    go true e false h = unheld-none (in_sets sets q b) (unheld (is_held (in_sets sets q b)) refl)
-      where
-        unheld : (u : Bool) → is_held (in_sets sets q b) ≡ u → u ≡ false
-        unheld true f = absurd (true≢false (sym (g.all p b l (ap (λ (k : ℕ). is_held (in_sets sets k b)) (sym (eqb-true q p e)) ∙ f)) ∙ h))
-        unheld false f = refl
-    go false e s h = refl
-
--- then one class less
+-- where one class less is left
 pub cleared-step : (left rest : ClassSet) (c p : ℕ) (first before later : Table) → has left c ≡ true → ((d : ℕ) → d < 16 → has rest d ≡ (not (eqb d c) && has left d))
     → ((q b : ℕ) → later q b ≡ cond (eqb q p && eqb (b % 16) c) no_version (before q b)) → ClearedBut left first p before → ClearedBut rest first p later
 cleared-step left rest c p first before later inside less is so q b =
@@ -96,11 +70,3 @@ cleared-step left rest c p first before later inside less is so q b =
     go true true h = refl
     go true false h = refl
     go false s h = refl
-
--- and where none is left, all are out
-pub cleared-all : (left : ClassSet) (p : ℕ) (first later : Table) → ((d : ℕ) → d < 16 → has left d ≡ false) → ClearedBut left first p later → later ≡ without first p
-cleared-all left p first later none so = fun_ext (λ q. fun_ext (λ b. so q b ∙ (ap (λ (t : Bool). cond (eqb q p && not t) no_version (first q b)) (none (b % 16) (omega arith)) ∙ go (eqb q p) q b)))
-  where
-    go : (t : Bool) (q b : ℕ) → cond (t && true) no_version (first q b) ≡ cond t no_version (first q b)
-    go true q b = refl
-    go false q b = refl

@@ -6,7 +6,7 @@ use Rattle.std.specs.Option.{option_map, unwrap_or}
 use Rattle.buffer.specs.declared.rows.Row.{Row}
 use Rattle.versions.specs.declared.class_set.ClassSet.{ClassSet}
 use Rattle.versions.specs.declared.version.Version.{Version}
-use Rattle.versions.specs.ClassSets.{has}
+use Rattle.versions.specs.ClassSets.{has, no_class}
 use Rattle.versions.specs.Tables.{Table}
 use Rattle.versions.specs.Versions.{no_version, is_held}
 
@@ -63,10 +63,6 @@ pub record GoodSet (c : ℕ) (rs : List Row) : Type 0 where
 pub record GoodSets (sets : List (List Row)) : Type 0 where
   pub count : length sets ≡ 16
   pub each : (c : ℕ) → c < 16 → GoodSet c (slice_index_or sets c [])
-
--- past the sets of classes
-abbrev pub no_class : ClassSet
-no_class = record { bits = 0 }
 
 -- a set of classes for each processor: what a processor holds is of a class in its set
 pub record Covered (classes : List ClassSet) (sets : List (List Row)) : Type 0 where

@@ -1,9 +1,13 @@
--- The active tasks of the central buffer: the table of their versions.
+-- The active tasks of the central buffer: their processors, and the table of their versions.
 use Rattle.std.specs.Prelude.{ℕ, List, map}
 use Rattle.buffer.specs.declared.tasks.Tasks.{Tasks}
 use Rattle.versions.specs.declared.version.Version.{Version}
 use Rattle.buffer.specs.Rows.{table_in}
 use Rattle.versions.specs.Tables.{Table}
+
+-- the processors with an active task, oldest first
+abbrev pub processors_of : Tasks → List ℕ
+processors_of t = t.order
 
 abbrev pub table_of : Tasks → Table
 table_of t = table_in t.rows

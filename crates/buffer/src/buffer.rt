@@ -1,8 +1,8 @@
 // The central buffer: one store of versions for all four processors, over any memory. Every refusal is decided before
 // the first row or word changes.
 ghost use Rattle.std.specs.Prelude.{◌≡◌, ℕ, ◌+◌, ◌<◌, ◌≤◌, length, take, Ok, slice_index};
-ghost use Rattle.buffer.specs.Buffers.{plain_in, SoundBuffer};
-ghost use Rattle.buffer.specs.Tasks.{versions_at};
+ghost use Rattle.buffer.specs.Buffers.{memory_below, plain_in, SoundBuffer};
+ghost use Rattle.buffer.specs.Tasks.{processors_of, versions_at};
 ghost use Rattle.versions.specs.Versions.{seen_by};
 
 use crate::tasks::Tasks;
@@ -19,15 +19,15 @@ impl<M: Memory> CentralBuffer<M> {
     // would be no plainer. It is always copied in, as `load` is.
     #[inline(always)]
     fn seen(&mut self, k: usize, a: u32) -> Result<u32, Refusal>
-        requires sound { M.Memory.sound self.old.memory }
-        requires k_in_bounds { k < length self.old.tasks.order }
-        requires few { length self.old.tasks.order ≤ 4 }
-        requires a_in_bounds { a < length (M.Memory.words self.old.memory) }
-        ensures answer { result ≡ Ok (seen_by (versions_at self.old.tasks a (take (k + 1) self.old.tasks.order)) (slice_index (M.Memory.words self.old.memory) a)) }
-        ensures words { M.Memory.words self.new.memory ≡ M.Memory.words self.old.memory }
+        requires sound { M.Memory.sound (memory_below self.old) }
+        requires k_in_bounds { k < length (processors_of self.old.tasks) }
+        requires few { length (processors_of self.old.tasks) ≤ 4 }
+        requires a_in_bounds { a < length (M.Memory.words (memory_below self.old)) }
+        ensures answer { result ≡ Ok (seen_by (versions_at self.old.tasks a (take (k + 1) (processors_of self.old.tasks))) (slice_index (M.Memory.words (memory_below self.old)) a)) }
+        ensures words { M.Memory.words (memory_below self.new) ≡ M.Memory.words (memory_below self.old) }
         ensures tasks { self.new.tasks ≡ self.old.tasks }
-        ensures beside { M.Memory.spare self.new.memory ≡ M.Memory.spare self.old.memory }
-        ensures kept { M.Memory.sound self.new.memory }
+        ensures beside { M.Memory.spare (memory_below self.new) ≡ M.Memory.spare (memory_below self.old) }
+        ensures kept { M.Memory.sound (memory_below self.new) }
     {
         match self.tasks.nearest_own(k, a) {
             Some(w) => Ok(w),
@@ -43,7 +43,7 @@ impl<M: Memory> VersionStore for CentralBuffer<M> {
 
     ghost sound = { SoundBuffer M.Memory.words M.Memory.sound };
 
-    ghost spare = { λ b. M.Memory.spare b.memory };
+    ghost spare = { λ b. M.Memory.spare (memory_below b) };
 
     // Nothing beyond the plain store.
     ghost opens = { λ _. Unit {0} };

@@ -3,7 +3,7 @@
 ghost use Rattle.std.specs.Prelude.{◌≡◌, ℕ, ◌%◌, ◌<◌, true, ◌&&◌, map, length, get_or, ◌==◌, replicate, slice_index_or, slice_set};
 ghost use Rattle.std.specs.List.{position};
 ghost use Rattle.buffer.specs.Sets.{no_row, free_row, in_row, row_with, is_free, in_rows, without_row, GoodSet, GoodSets, LastOf, HeldBefore, RowFor, PutInto, Covered};
-ghost use Rattle.versions.specs.Sharers.{SharersOf, SharersIn};
+ghost use Rattle.versions.specs.Sharers.{shared_address, SharersOf, SharersIn};
 ghost use Rattle.versions.specs.Versions.{is_held, with_store};
 
 use std::marker::Model;
@@ -105,7 +105,7 @@ impl Set {
     // past the last task too, would need no branch, and was measured to be slower.)
     fn sharers(&self, order: &Order, a: u32) -> Sharers
         requires { GoodSet (a % 16) self.now }
-        ensures address { result.address ≡ a }
+        ensures address { shared_address result ≡ a }
         ensures tasks { SharersOf (map (λ q. in_rows self.now q a) order.now) result }
     {
         let mut sharers = Sharers::new(a);
@@ -235,7 +235,7 @@ impl Rows {
 
     // The sharers of a among the tasks of an order.
     pub fn sharers(&self, order: &Order, a: u32) -> Sharers
-        ensures address { result.address ≡ a }
+        ensures address { shared_address result ≡ a }
         ensures tasks { SharersIn order.now (table_in self.now) result }
     {
         self.sets[Class::of(a).index()].sharers(order, a)

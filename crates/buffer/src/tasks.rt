@@ -3,7 +3,7 @@ ghost use Rattle.std.specs.Prelude.{◌≡◌, ℕ, ◌+◌, ◌-◌, ◌<◌, �
 ghost use Rattle.versions.specs.Orders.{place_in};
 ghost use Rattle.versions.specs.Tables.{HeldIn, empty_table, with_version, without, without_all};
 ghost use Rattle.buffer.specs.Rows.{HoldsNoOther};
-ghost use Rattle.buffer.specs.Tasks.{table_of, versions_at};
+ghost use Rattle.buffer.specs.Tasks.{processors_of, table_of, versions_at};
 ghost use Rattle.versions.specs.Versions.{is_held, nearest_own, with_load, with_store};
 
 use crate::rows::Rows;
@@ -18,7 +18,7 @@ pub struct Tasks {
 impl Tasks {
     // No task is active.
     pub fn new() -> Tasks
-        ensures order { result.order ≡ [] }
+        ensures order { processors_of result ≡ [] }
         ensures table { table_of result ≡ empty_table }
     {
         Tasks {
@@ -31,9 +31,9 @@ impl Tasks {
     // plainer. It is always copied in: a load has looked for the row already, and LLVM sees that it need not be looked for again.
     #[inline(always)]
     pub fn nearest_own(&self, k: usize, a: u32) -> Option<u32>
-        requires k_in_bounds { k < length self.now.order }
-        requires few { length self.now.order ≤ 4 }
-        ensures { result ≡ nearest_own (versions_at self.now a (take (k + 1) self.now.order)) }
+        requires k_in_bounds { k < length (processors_of self.now) }
+        requires few { length (processors_of self.now) ≤ 4 }
+        ensures { result ≡ nearest_own (versions_at self.now a (take (k + 1) (processors_of self.now))) }
     {
         let own = self.version(self.order.at(k), a).own;
         // Mostly it is the task's own.
@@ -46,8 +46,8 @@ impl Tasks {
 
     // Adds a task on p, the youngest; that p has none yet is a clause, for it depends on the order.
     pub fn append(&mut self, p: Processor)
-        requires { place_in self.old.order p ≡ None }
-        ensures order { self.new.order ≡ self.old.order ++ p ∷ [] }
+        requires { place_in (processors_of self.old) p ≡ None }
+        ensures order { processors_of self.new ≡ processors_of self.old ++ p ∷ [] }
         ensures table { table_of self.new ≡ table_of self.old }
     {
         self.order.append(p);
@@ -56,7 +56,7 @@ impl Tasks {
     // Makes v p's version of a. p holds no other address of a's class: a clause, here and below, since it relates p and a to the rows.
     pub fn put(&mut self, p: Processor, a: u32, v: Version)
         requires { HoldsNoOther (table_of self.old p) a }
-        ensures order { self.new.order ≡ self.old.order }
+        ensures order { processors_of self.new ≡ processors_of self.old }
         ensures table { table_of self.new ≡ with_version (table_of self.old) p a v }
     {
         self.rows.put(p, a, v);
@@ -67,7 +67,7 @@ impl Tasks {
     pub fn note_load(&mut self, p: Processor, a: u32, v: Version)
         requires other { HoldsNoOther (table_of self.old p) a }
         requires version { v ≡ table_of self.old p a }
-        ensures order { self.new.order ≡ self.old.order }
+        ensures order { processors_of self.new ≡ processors_of self.old }
         ensures table { table_of self.new ≡ with_version (table_of self.old) p a (with_load (table_of self.old p a)) }
     {
         if !v.is_held() {
@@ -78,7 +78,7 @@ impl Tasks {
     // Notes in p's version of a that it has stored w there. p holds no other address of a's class.
     pub fn note_store(&mut self, p: Processor, a: u32, w: u32)
         requires { HoldsNoOther (table_of self.old p) a }
-        ensures order { self.new.order ≡ self.old.order }
+        ensures order { processors_of self.new ≡ processors_of self.old }
         ensures table { table_of self.new ≡ with_version (table_of self.old) p a (with_store w (table_of self.old p a)) }
     {
         self.rows.store(p, a, w);
@@ -114,9 +114,9 @@ impl Tasks {
 
     // Removes the tasks from place k on, with their versions; k is bounded by a clause, as above.
     pub fn cut(&mut self, k: usize)
-        requires { k ≤ length self.old.order }
-        ensures order { self.new.order ≡ take k self.old.order }
-        ensures table { table_of self.new ≡ without_all (table_of self.old) (drop k self.old.order) }
+        requires { k ≤ length (processors_of self.old) }
+        ensures order { processors_of self.new ≡ take k (processors_of self.old) }
+        ensures table { table_of self.new ≡ without_all (table_of self.old) (drop k (processors_of self.old)) }
     {
         for p in &self.order.processors()[k..] {
             self.rows.clear(*p);
@@ -126,9 +126,9 @@ impl Tasks {
 
     // Removes the last n tasks, with their versions; n is bounded by a clause, as above. Most stores squash none: they change nothing.
     pub fn cut_last(&mut self, n: usize)
-        requires { n ≤ length self.old.order }
-        ensures order { self.new.order ≡ take (length self.old.order - n) self.old.order }
-        ensures table { table_of self.new ≡ without_all (table_of self.old) (drop (length self.old.order - n) self.old.order) }
+        requires { n ≤ length (processors_of self.old) }
+        ensures order { processors_of self.new ≡ take (length (processors_of self.old) - n) (processors_of self.old) }
+        ensures table { table_of self.new ≡ without_all (table_of self.old) (drop (length (processors_of self.old) - n) (processors_of self.old)) }
     {
         if n > 0 {
             let active = self.order.len();
@@ -138,8 +138,8 @@ impl Tasks {
 
     // Removes the oldest task, p's, with its versions; that there is one is a clause, as above.
     pub fn retire(&mut self, p: Processor)
-        requires { 0 < length self.old.order }
-        ensures order { self.new.order ≡ drop 1 self.old.order }
+        requires { 0 < length (processors_of self.old) }
+        ensures order { processors_of self.new ≡ drop 1 (processors_of self.old) }
         ensures table { table_of self.new ≡ without (table_of self.old) p }
     {
         self.rows.clear(p);
@@ -148,7 +148,7 @@ impl Tasks {
 }
 
 impl TaskTable for Tasks {
-    ghost processors = { λ t. t.order };
+    ghost processors = { processors_of };
 
     ghost table = { table_of };
 

@@ -5,6 +5,7 @@ ghost use Rattle.versions.specs.declared.turn.Turn.{Turn};
 ghost use Rattle.versions.specs.Plain.{word_of};
 ghost use Rattle.snooping.specs.declared.report.BusReport.{BusReport};
 ghost use Rattle.snooping.specs.Report.{quiet};
+ghost use Rattle.snooping.specs.Snooping.{latest_report};
 ghost use Rattle.model.specs.Commands.{asked_of};
 ghost use Rattle.model.specs.Machines.{seen_of, line_seen, bus_after, reply_to, seen_after};
 
@@ -68,7 +69,7 @@ pub trait Machine: VersionStore {
 }
 
 impl<M: Memory> Machine for SnoopingStore<M> {
-    ghost bus = { λ s. Some s.report };
+    ghost bus = { λ s. Some (latest_report s) };
 
     ghost first_report = { Some quiet };
 

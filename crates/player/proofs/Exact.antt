@@ -40,12 +40,6 @@ join-split : (sep : ℕ) (s : List ℕ) → join sep (split sep s) ≡ s
 join-split sep [] = refl
 join-split sep (b ∷ bs) = go (eqb b sep) refl (join-split sep bs)
   where
-    first : List ℕ
-    first = before sep bs
-
-    rest : List (List ℕ)
-    rest = further sep (after sep bs)
-
     go : (u : Bool) → eqb b sep ≡ u → join sep (split sep bs) ≡ bs → join sep (cond u ([] ∷ split sep bs) (begun b (split sep bs))) ≡ b ∷ bs
     go true here ih =
         ap (λ (ps : List (List ℕ)). join sep ([] ∷ ps)) (split-first sep bs)

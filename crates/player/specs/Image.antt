@@ -1,6 +1,6 @@
 -- What an image means. It is a list of numbers, each in four bytes, lowest first: how many pairs there are, the pairs,
 -- and the words. A pair is an offset and a length, and takes that many of the words, in their order.
-use Rattle.std.specs.Prelude.{◌≡◌, ℕ, ◌+◌, ◌*◌, ◌<◌, ◌≤◌, Bool, cond, not, ◌||◌, ◌⊎◌, List, [], ◌∷◌, ◌++◌, length, take, drop, is_ok, Some, None, Ok, Err, sum_by, Option, Result, ◌==◌, nat_lt, slice_index}
+use Rattle.std.specs.Prelude.{◌≡◌, ℕ, ◌+◌, ◌*◌, ◌<◌, ◌≤◌, Bool, cond, not, ◌||◌, ◌⊎◌, List, [], ◌∷◌, ◌++◌, length, take, drop, is_ok, sum_by, Option, Result, ◌==◌, nat_lt, slice_index}
 use Rattle.std.proofs.Math.Seq.{paste}
 use Rattle.std.specs.List.{AllByRecursion}
 use Rattle.memory.specs.Bytes.{words_of}

@@ -1,19 +1,16 @@
 -- The sets of classes beside the caches: a line outside of its processor's set stays blank.
-use Rattle.std.proofs.Common.{◌≡◌, ℕ, ◌<◌, ◌≤◌, Bool, true, false, cond, ◌&&◌, ◌||◌, eqb, List, map, get_or, set, replicate, is_some, Some, None, Option, ⊎_elim, sym, refl, ap, ◌∙◌, arith}
+use Rattle.std.proofs.Common.{◌≡◌, ℕ, ◌<◌, ◌≤◌, Bool, true, false, cond, ◌&&◌, eqb, List, map, get_or, set, is_some, Some, None, Option, ⊎_elim, sym, refl, ap, ◌∙◌, arith}
 use Rattle.std.proofs.lemmas.List.{length-set}
 use Rattle.std.proofs.lemmas.Bool.{eqb-true, cases_lt, true≢false}
-use Rattle.versions.specs.ClassSets.{has}
+use Rattle.versions.specs.ClassSets.{has, no_class}
 use Rattle.versions.specs.declared.class_set.ClassSet.{ClassSet}
 use Rattle.versions.specs.Orders.{place_in}
 use Rattle.versions.specs.Versions.{is_held}
 use Rattle.snooping.specs.declared.cache.Cache.{Cache}
 use Rattle.snooping.specs.declared.line.Line.{Line}
-use Rattle.snooping.specs.Grid.{no_cache, no_class, line_in, Wide, Covered, Pointing}
+use Rattle.snooping.specs.Grid.{no_cache, line_in, Wide, Covered, Pointing}
 use Rattle.snooping.specs.Lines.{blank, version_in, with_next, pointer_to, unlinked}
-use Rattle.snooping.proofs.Grids.{at_set, past-blank, cache-mapped, line-changed, new-lines}
-
-pub covered-new : (x : Cache) (s : ClassSet) → x.lines ≡ replicate 16 blank → Covered (replicate 4 x) (replicate 4 s)
-covered-new x s e = record { long = refl; outside = λ q c h l out. ap (λ (ls : ℕ → ℕ → Line). ls q c) (new-lines x e) }
+use Rattle.snooping.proofs.Grids.{at_set, past-blank, cache-mapped, line-changed}
 
 -- a line that holds something is of a class in the set
 pub covered-held : (cs : List Cache) (sets : List ClassSet) → Covered cs sets → (q c : ℕ) → q < 4 → c < 16 → is_held (version_in (line_in cs q c)) ≡ true → has (get_or sets q no_class) c ≡ true
@@ -46,22 +43,6 @@ module _ (cs : List Cache) (sets : List ClassSet) (covered : Covered cs sets) (w
           → cond t (f (line_in cs q c)) (line_in cs q c) ≡ blank
       go q c low l true e out = ends (line_in cs q c)
       go q c low l false e out = covered.outside q c low l (ap (λ (y : ClassSet). has y c) (sym e) ∙ out)
-
-  -- line c of p's cache changed, its class put in
-  pub covered-taken : (c : ℕ) (y : Line) (s : ClassSet) → c < 16 → x.lines ≡ set (get_or cs p no_cache).lines c y → ((d : ℕ) → has s d ≡ (eqb d c || has (get_or sets p no_class) d)) → Covered (set cs p x) (set sets p s)
-  covered-taken c y s low_c is put = record {
-    long = length-set sets p s ∙ covered.long;
-    outside = λ q d low l out. ap (λ (ls : ℕ → ℕ → Line). ls q d) (line-changed cs p x wide h c y low_c is) ∙ go q d low l (eqb q p) refl (at_set sets p s no_class (omega (arith, covered.long)) q) out;
-  }
-    where
-      in-set : (q d : ℕ) → q < 4 → d < 16 → q ≡ p → (t : Bool) → eqb d c ≡ t → (t || has (get_or sets p no_class) d) ≡ false → cond t y (line_in cs q d) ≡ blank
-      in-set q d low l same true e out = absurd (true≢false out)
-      in-set q d low l same false e out = covered.outside q d low l (ap (λ (r : ℕ). has (get_or sets r no_class) d) same ∙ out)
-
-      go : (q d : ℕ) → q < 4 → d < 16 → (t : Bool) → eqb q p ≡ t → get_or (set sets p s) q no_class ≡ cond t s (get_or sets q no_class) → has (get_or (set sets p s) q no_class) d ≡ false
-          → cond (t && eqb d c) y (line_in cs q d) ≡ blank
-      go q d low l true t e out = in-set q d low l (eqb-true q p t) (eqb d c) refl (sym (put d) ∙ (ap (λ (z : ClassSet). has z d) (sym e) ∙ out))
-      go q d low l false t e out = covered.outside q d low l (ap (λ (z : ClassSet). has z d) (sym e) ∙ out)
 
   -- line c of p's cache changed, which is in the set already or becomes blank
   pub covered-line : (c : ℕ) (y : Line) → c < 16 → x.lines ≡ set (get_or cs p no_cache).lines c y → (has (get_or sets p no_class) c ≡ false → y ≡ blank) → Covered (set cs p x) sets

@@ -130,9 +130,6 @@ own-word x w false e f = f refl ∙ sym (ap (λ (t : Bool). unwrap_or (cond t (S
 pub laid-line : (ws ps : List ℕ) (ls : LineTable) → Laid ws ps ls → Apart ps → Fitting (length ws) ps (table_by ls) → (q c : ℕ) → ls q c ≡ line_of (plain_of ws ps (table_by ls)) q c
 laid-line ws ps ls x apart fits q c = go (place_in ps q) refl
   where
-    table : Table
-    table = table_by ls
-
     idle : place_in ps q ≡ None → (t : Bool) → is_held (version_in (ls q c)) ≡ t → ls q c ≡ blank
     idle e true h = absurd (true≢false (sym h ∙ (ap is_held (sym (shows ws ps ls x q c h)) ∙ ap is_held (fits.idle q e (ls q c).tag))))
     idle e false h = x.bare q c h

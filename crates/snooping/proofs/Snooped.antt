@@ -197,9 +197,6 @@ store-hidden ps table p k q j a w apart at_p at-q later stays mark f agree =
     i : ℕ
     i = j - suc k
 
-    vs : List Version
-    vs = map (λ r. table r a) (drop (suc k) ps)
-
     split : take j ps ≡ take (suc k) ps ++ take (j - suc k) (drop (suc k) ps)
     split =
         let sum : suc k + (j - suc k) ≡ j = omega arith in

@@ -1,14 +1,14 @@
 -- The four caches as a table of lines by processor and line number, and what happens to the table.
-use Rattle.std.specs.Prelude.{◌≡◌, ℕ, suc, ◌%◌, ◌<◌, true, false, cond, ◌&&◌, List, [], ◌∷◌, length, get_or, drop, is_some, Some, Option, ◌==◌, slice_index_or}
+use Rattle.std.specs.Prelude.{◌≡◌, ℕ, suc, ◌%◌, ◌<◌, true, false, cond, ◌&&◌, List, [], ◌∷◌, length, get_or, drop, is_some, Some, Option, ◌==◌}
 use Rattle.std.specs.List.{find}
-use Rattle.versions.specs.ClassSets.{has}
+use Rattle.versions.specs.ClassSets.{has, no_class}
 use Rattle.versions.specs.declared.class_set.ClassSet.{ClassSet}
 use Rattle.versions.specs.Orders.{place_in}
 use Rattle.versions.specs.Tables.{Table}
 use Rattle.versions.specs.Versions.{is_held}
 use Rattle.snooping.specs.declared.cache.Cache.{Cache}
 use Rattle.snooping.specs.declared.line.Line.{Line}
-use Rattle.snooping.specs.Lines.{blank, version_in, version_at, with_next, unlinked}
+use Rattle.snooping.specs.Lines.{blank, cache_lines, cache_line, version_in, version_at, with_next, unlinked}
 
 -- line c of processor q
 abbrev pub LineTable : Type 0
@@ -18,15 +18,12 @@ abbrev pub no_cache : Cache
 no_cache = record { lines = [] }
 
 abbrev pub line_in : List Cache → LineTable
-line_in cs q c = slice_index_or (get_or cs q no_cache).lines c blank
+line_in cs q c = cache_line (get_or cs q no_cache) c
 
 -- four caches of 16 lines
 pub record Wide (cs : List Cache) : Type 0 where
   pub caches : length cs ≡ 4
-  pub lines : (q : ℕ) → q < 4 → length (get_or cs q no_cache).lines ≡ 16
-
-abbrev pub no_class : ClassSet
-no_class = record { bits = 0 }
+  pub lines : (q : ℕ) → q < 4 → length (cache_lines (get_or cs q no_cache)) ≡ 16
 
 -- four sets of classes: each processor's lines of other classes are blank
 pub record Covered (cs : List Cache) (sets : List ClassSet) : Type 0 where

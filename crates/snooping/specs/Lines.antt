@@ -1,5 +1,6 @@
--- One line, and all lines of the four caches.
-use Rattle.std.specs.Prelude.{ℕ, cond, List, is_some, Some, None, Option, ◌==◌}
+-- One line, and the lines of one cache.
+use Rattle.std.specs.Prelude.{ℕ, cond, List, is_some, Some, None, Option, ◌==◌, slice_index_or}
+use Rattle.snooping.specs.declared.cache.Cache.{Cache}
 use Rattle.snooping.specs.declared.line.Line.{Line}
 use Rattle.snooping.specs.declared.state.LineState.TheVariants.{Invalid}
 use Rattle.snooping.specs.declared.state.LineEvent.{LineEvent}
@@ -12,6 +13,13 @@ use Rattle.versions.specs.Versions.{no_version}
 -- an invalid line has no tag, word or pointer
 abbrev pub blank : Line
 blank = record { state = Invalid; tag = 0; word = 0; next = None }
+
+-- the lines of a cache, one for each class, and line c of them; contracts cite these, since the field is private
+abbrev pub cache_lines : Cache → List Line
+cache_lines x = x.lines
+
+abbrev pub cache_line : Cache → ℕ → Line
+cache_line x c = slice_index_or (cache_lines x) c blank
 
 -- the version that a line holds, and that of address b in it
 abbrev pub version_in : Line → Version

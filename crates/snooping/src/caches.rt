@@ -25,10 +25,10 @@ impl Caches {
     ghost use Rattle.versions.specs.Orders.{place_in, Apart};
     ghost use Rattle.versions.specs.Versions.{is_own, is_held};
     ghost use Rattle.snooping.specs.declared.state.LineEvent.TheVariants.{Commit};
-    ghost use Rattle.snooping.specs.Caches.{lines_in, table_of, processors_of};
-    ghost use Rattle.snooping.specs.Grid.{with_line, with_cache, holder, Linked, relinked, Pointing, cut_to, no_class};
-    ghost use Rattle.versions.specs.ClassSets.{has};
-    ghost use Rattle.versions.specs.Sharers.{SharersIn};
+    ghost use Rattle.snooping.specs.Caches.{caches_in, lines_in, table_of, processors_of};
+    ghost use Rattle.snooping.specs.Grid.{with_line, with_cache, holder, Linked, relinked, Pointing, cut_to};
+    ghost use Rattle.versions.specs.ClassSets.{has, no_class};
+    ghost use Rattle.versions.specs.Sharers.{shared_address, SharersIn};
     ghost use Rattle.versions.specs.Tables.{last_that};
     ghost use Rattle.snooping.specs.Lines.{blank, version_in, with_taken, with_next, ended};
     ghost use Rattle.snooping.specs.Report.{reached, powers};
@@ -55,7 +55,7 @@ impl Caches {
     // p's line takes the word w of an access of a.
     pub fn take(&mut self, p: Processor, event: LineEvent, a: u32, w: u32)
         ensures lines { lines_in self.new ≡ with_line (lines_in self.old) p (a % 16) (with_taken event (lines_in self.old p (a % 16)) a w) }
-        ensures order { self.new.order ≡ self.old.order }
+        ensures order { processors_of self.new ≡ processors_of self.old }
     {
         self.list[p.index()].take(event, a, w);
         self.valid[p.index()].insert(Class::of(a));
@@ -74,12 +74,12 @@ impl Caches {
     )
         requires apart { Apart (processors_of self.old) }
         requires place { place_in (processors_of self.old) p ≡ Some k }
-        requires address { sharers.address ≡ a }
+        requires address { shared_address sharers ≡ a }
         requires sharers { SharersIn (processors_of self.old) (table_of self.old) sharers }
         requires linked { Linked (processors_of self.old) a (lines_in self.old) }
         requires held { is_held (version_in (with_taken event (lines_in self.old p (a % 16)) a w)) ≡ true }
         ensures lines { lines_in self.new ≡ relinked (processors_of self.old) a (with_line (lines_in self.old) p (a % 16) (with_taken event (lines_in self.old p (a % 16)) a w)) }
-        ensures order { self.new.order ≡ self.old.order }
+        ensures order { processors_of self.new ≡ processors_of self.old }
     {
         let next = self.next_holder(k + 1, sharers);
         let before = sharers.holder_before(k);
@@ -95,7 +95,7 @@ impl Caches {
     fn next_holder(&self, k: usize, sharers: Sharers) -> Option<u32>
         requires bound { k ≤ 4 }
         requires sharers { SharersIn (processors_of self.now) (table_of self.now) sharers }
-        ensures { result ≡ holder (table_of self.now) sharers.address (drop k (processors_of self.now)) }
+        ensures { result ≡ holder (table_of self.now) (shared_address sharers) (drop k (processors_of self.now)) }
     {
         let place = sharers.holder_from(k)?;
         Some(self.order.at(place).number())
@@ -105,7 +105,7 @@ impl Caches {
     fn link(&mut self, p: Processor, a: u32, next: Option<u32>)
         requires { is_held (table_of self.old p a) ≡ true }
         ensures lines { lines_in self.new ≡ with_line (lines_in self.old) p (a % 16) (with_next (lines_in self.old p (a % 16)) next) }
-        ensures order { self.new.order ≡ self.old.order }
+        ensures order { processors_of self.new ≡ processors_of self.old }
     {
         self.list[p.index()].link(a, next);
     }
@@ -113,7 +113,7 @@ impl Caches {
     // Ends what p's line of address a holds, as a replacement does.
     pub fn end_line(&mut self, p: Processor, a: u32)
         ensures lines { lines_in self.new ≡ with_line (lines_in self.old) p (a % 16) blank }
-        ensures order { self.new.order ≡ self.old.order }
+        ensures order { processors_of self.new ≡ processors_of self.old }
     {
         self.list[p.index()].end(a, LineEvent::Replace);
     }
@@ -122,7 +122,7 @@ impl Caches {
     fn trim(&mut self)
         requires { Pointing (lines_in self.old) }
         ensures lines { lines_in self.new ≡ cut_to (processors_of self.old) (lines_in self.old) }
-        ensures order { self.new.order ≡ self.old.order }
+        ensures order { processors_of self.new ≡ processors_of self.old }
     {
         let running = running(&self.order);
         let touched = self.left_over(&running);
@@ -181,7 +181,7 @@ impl Caches {
     pub fn invalidated(&self, k: usize, sharers: Sharers) -> u32
         requires bound { k ≤ length (processors_of self.now) }
         requires sharers { SharersIn (processors_of self.now) (table_of self.now) sharers }
-        ensures { result ≡ powers (reached (λ q. table_of self.now q sharers.address) (drop k (processors_of self.now))) }
+        ensures { result ≡ powers (reached (λ q. table_of self.now q (shared_address sharers)) (drop k (processors_of self.now))) }
     {
         let active = self.order.len();
         let end = match sharers.owner_from(k) {
@@ -200,7 +200,7 @@ impl Caches {
     pub fn append(&mut self, p: Processor)
         requires { place_in (processors_of self.old) p ≡ None }
         ensures order { processors_of self.new ≡ processors_of self.old ++ p ∷ [] }
-        ensures list { self.new.list ≡ self.old.list }
+        ensures list { caches_in self.new ≡ caches_in self.old }
     {
         self.order.append(p);
     }

@@ -4,10 +4,10 @@ ghost use Rattle.std.specs.Prelude.{◌≡◌, ◌%◌, ◌<◌, ◌≤◌, fals
 ghost use Rattle.versions.specs.Plain.{word_of};
 ghost use Rattle.versions.specs.Versions.{is_own};
 ghost use Rattle.snooping.specs.Caches.{lines_in, table_of, processors_of};
-ghost use Rattle.versions.specs.Sharers.{SharersIn};
+ghost use Rattle.versions.specs.Sharers.{shared_address, SharersIn};
 ghost use Rattle.versions.specs.Tables.{last_that};
 ghost use Rattle.snooping.specs.Report.{quiet, supplied_by};
-ghost use Rattle.snooping.specs.Snooping.{plain_in, SoundSnooping, Shown, line_answer, supplied_word};
+ghost use Rattle.snooping.specs.Snooping.{memory_below, all_caches, latest_report, plain_in, SoundSnooping, Shown, line_answer, supplied_word};
 
 use crate::caches::Caches;
 use crate::line::Line;
@@ -37,7 +37,7 @@ impl<M: Memory> SnoopingStore<M> {
 
     // What the bus reports of the latest accepted turn.
     pub fn report(&self) -> BusReport
-        ensures { result ≡ self.now.report }
+        ensures { result ≡ latest_report self.now }
     {
         self.report
     }
@@ -50,10 +50,10 @@ impl<M: Memory> VersionStore for SnoopingStore<M> {
 
     ghost sound = { SoundSnooping M.Memory.words M.Memory.sound };
 
-    ghost spare = { λ s. M.Memory.spare s.memory };
+    ghost spare = { λ s. M.Memory.spare (memory_below s) };
 
     // The bus has nothing to report at opening, and a turn shows every line and the bus report.
-    ghost opens = { λ s. s.report ≡ quiet };
+    ghost opens = { λ s. latest_report s ≡ quiet };
 
     ghost shows = { Shown M.Memory.words };
 
@@ -147,10 +147,10 @@ impl<M: Memory> VersionStore for SnoopingStore<M> {
         ensures answer { result ≡ word_of (plain_in M.Memory.words self.old) a }
         ensures after { plain_in M.Memory.words self.new ≡ plain_in M.Memory.words self.old }
         ensures refused { is_ok result ≡ false → self.new ≡ self.old }
-        ensures beside { M.Memory.spare self.new.memory ≡ M.Memory.spare self.old.memory }
+        ensures beside { M.Memory.spare (memory_below self.new) ≡ M.Memory.spare (memory_below self.old) }
         ensures kept { SoundSnooping M.Memory.words M.Memory.sound self.new }
-        ensures lines { self.new.caches.list ≡ self.old.caches.list }
-        ensures report { self.new.report ≡ self.old.report }
+        ensures lines { all_caches self.new ≡ all_caches self.old }
+        ensures report { latest_report self.new ≡ latest_report self.old }
     {
         Ok(self.memory.read(a)?)
     }
@@ -184,7 +184,7 @@ fn supplied<M: Memory>(
     sharers: Sharers,
 ) -> Result<(u32, Supplier), Refusal>
     requires sound { M.Memory.sound memory.old }
-    requires address { sharers.address ≡ a }
+    requires address { shared_address sharers ≡ a }
     requires sharers { SharersIn (processors_of caches.now) (table_of caches.now) sharers }
     requires k_in_bounds { k ≤ length (processors_of caches.now) }
     requires a_in_bounds { a < length (M.Memory.words memory.old) }

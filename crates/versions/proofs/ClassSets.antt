@@ -4,7 +4,7 @@ use Rattle.std.specs.Int.{bit_at}
 use Rattle.std.specs.Int.{trailing_zeros}
 use Rattle.std.proofs.lemmas.Bool.{eq-eqb, ne_eqb, eqb-true, eqb-false, cases_eq}
 use Rattle.std.proofs.lemmas.Nat.{and_le_r}
-use Rattle.std.proofs.lemmas.Nat.Bits.{bit_at-lt, bit_at_or, bit_at_and, bit_at_set_same, bit_at_set_other, bit_at_clear_same, bit_at_clear_other, bit_at-trailing_zeros, bit_at-suc, bit_at-zero, bit_at_lowest}
+use Rattle.std.proofs.lemmas.Nat.Bits.{bit_at-lt, bit_at_or, bit_at_and, bit_at_set_same, bit_at_set_other, bit_at-trailing_zeros, bit_at-suc, bit_at-zero, bit_at_lowest}
 
 -- a bit is set
 abbrev pub set_in : ℕ → ℕ → Bool
@@ -48,9 +48,6 @@ pub lowest_is : (n : ℕ) → 0 < n → n < 65536 → (lowest n < 16) × (set_in
 lowest_is n some fits =
     let h = bit_at-trailing_zeros w16 n some fits in
     (h.0, eq-eqb (bit_at n (lowest n)) 1 h.1, λ d l. ap (λ x. eqb x 1) (h.2 d l))
-
-pub set_none : (i : ℕ) → set_in 0 i ≡ false
-set_none i = ap (λ x. eqb x 1) (Rattle.std.proofs.lemmas.Nat.Bits.bit_at-zero i)
 
 -- ---- a number and the one before it: what both have is the number without its lowest bit, c
 

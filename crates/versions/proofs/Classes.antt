@@ -66,9 +66,6 @@ class-taken t a n None h inside one = sym (any_below-none (λ b. is_held (t.at b
     go b false e = grind (arith, nat_tests)
 class-taken t a n (Some b) h inside one = go (eqb b a) refl
   where
-    test : ℕ → Bool
-    test c = is_held (t.at c) && (not (eqb c a) && eqb (c % 16) (a % 16))
-
     go : (u : Bool) → eqb b a ≡ u → not u ≡ holds_class t a n
     go true e =
         sym (any_below-none (λ c. is_held (t.at c) && (not (eqb c a) && eqb (c % 16) (a % 16))) n

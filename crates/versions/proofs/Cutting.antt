@@ -46,10 +46,6 @@ module _ {A : Type 0} (f : A → Bool) (x : A) (post : List A) (here : f x ≡ t
   changed-at g [] none = rw here
   changed-at g (y ∷ pre) none = let p = or_parts (f y) (list_any f pre) none in rw (p.0, changed-at g pre p.1)
 
-  pub any_at : (pre : List A) → list_any f (pre ++ x ∷ post) ≡ true
-  any_at [] = rw here
-  any_at (y ∷ pre) = let h = any_at pre in grind (arith, nat_tests)
-
 pub but_last-cons : {A : Type 0} (n : ℕ) (x : A) (xs : List A) → n ≤ length xs → but_last n (x ∷ xs) ≡ x ∷ but_last n xs
 but_last-cons n x xs h = let e : suc (length xs) - n ≡ suc (length xs - n) = omega arith in rw e
 

@@ -1,6 +1,6 @@
 -- A list changed in place, one element after another.
-use Rattle.std.proofs.Common.{◌≡◌, ℕ, ◌+◌, ◌<◌, ◌≤◌, List, [], ◌∷◌, ◌++◌, map, length, get_or, take, drop, set, sym, ap, ◌∙◌, arith}
-use Rattle.std.proofs.lemmas.List.{drop_more, drop_all, take_all, append-nil, take_more, map-append, append_assoc, set_at, get_or_at, length-map, length-take-le}
+use Rattle.std.proofs.Common.{◌≡◌, ℕ, ◌+◌, ◌<◌, List, [], ◌∷◌, ◌++◌, map, length, get_or, take, drop, set, sym, ap, ◌∙◌, arith}
+use Rattle.std.proofs.lemmas.List.{drop_more, take_more, map-append, append_assoc, set_at, get_or_at, length-map, length-take-le}
 
 pub mapped-step : {A : Type 0} (g : A → A) (xs ys : List A) (i : ℕ) (d : A) → i < length xs → ys ≡ map g (take i xs) ++ drop i xs
     → set ys i (g (get_or ys i d)) ≡ map g (take (i + 1) xs) ++ drop (i + 1) xs
@@ -13,6 +13,3 @@ mapped-step g xs ys i d h is =
     ∙ (ap (λ l. set l i (g (get_or xs i d))) split
     ∙ (set_at front (get_or xs i d) (drop (i + 1) xs) (g (get_or xs i d)) i long
     ∙ sym (ap (λ l. l ++ drop (i + 1) xs) (ap (map g) (take_more xs i d h) ∙ map-append g (take i xs) (get_or xs i d ∷ [])) ∙ append_assoc front (g (get_or xs i d) ∷ []) (drop (i + 1) xs))))
-
-pub mapped-all : {A : Type 0} (g : A → A) (xs ys : List A) (i : ℕ) → length xs ≤ i → ys ≡ map g (take i xs) ++ drop i xs → ys ≡ map g xs
-mapped-all g xs ys i h is = is ∙ (ap (λ l. map g (take i xs) ++ l) (drop_all i xs h) ∙ (append-nil (map g (take i xs)) ∙ ap (map g) (take_all i xs h)))

@@ -26,6 +26,10 @@ owns_at vs i = is_own (get_or vs i no_version)
 abbrev pub holds_at : List Version → ℕ → Bool
 holds_at vs i = is_held (get_or vs i no_version)
 
+-- the address whose sharers they are; contracts cite it, since the field is private
+abbrev pub shared_address : Sharers → ℕ
+shared_address s = s.address
+
 -- the sharers are those of at most four versions
 pub record SharersOf (vs : List Version) (s : Sharers) : Type 0 where
   pub few : length vs ≤ 4
@@ -42,4 +46,4 @@ abbrev pub versions_of : Table → ℕ → List ℕ → List Version
 versions_of table a ps = map (λ q. table q a) ps
 
 abbrev pub SharersIn : List ℕ → Table → Sharers → Type 0
-SharersIn ps table s = SharersOf (versions_of table s.address ps) s
+SharersIn ps table s = SharersOf (versions_of table (shared_address s) ps) s

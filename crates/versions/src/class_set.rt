@@ -1,6 +1,6 @@
 // A set of classes of addresses. A task has few lines or rows: a store that keeps the set of their classes need not look at all sixteen.
 ghost use Rattle.std.specs.Prelude.{◌≡◌, ℕ, ◌<◌, true, false, ◌&&◌, ◌||◌, not, ◌==◌, Some, IfSome, IfNone};
-ghost use Rattle.versions.specs.ClassSets.{has, Lowest};
+ghost use Rattle.versions.specs.ClassSets.{has, bits_of, Lowest};
 
 use crate::processor::Class;
 
@@ -37,7 +37,7 @@ impl ClassSet {
         ensures none { IfNone result ((c : ℕ) → c < 16 → has self.old c ≡ false) }
         ensures lowest { IfSome result (λ c. Lowest self.old c) }
         ensures rest { IfSome result (λ c. (d : ℕ) → d < 16 → has self.new d ≡ (not (d == c) && has self.old d)) }
-        ensures fewer { IfSome result (λ c. self.new.bits < self.old.bits) }
+        ensures fewer { IfSome result (λ c. bits_of self.new < bits_of self.old) }
     {
         if self.bits == 0 {
             return None;

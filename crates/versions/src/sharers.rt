@@ -3,7 +3,7 @@
 ghost use Rattle.std.specs.Prelude.{◌≡◌, ℕ, ◌*◌, ◌<◌, ◌≤◌, [], ◌∷◌, ◌++◌, List, length, get_or, take};
 ghost use Rattle.versions.specs.declared.version.Version.{Version};
 ghost use Rattle.versions.specs.Versions.{no_version, share_of};
-ghost use Rattle.versions.specs.Sharers.{SharersOf, SquashedFrom, bit_set, LastBelow, FirstFrom, owns_at, holds_at};
+ghost use Rattle.versions.specs.Sharers.{shared_address, SharersOf, SquashedFrom, bit_set, LastBelow, FirstFrom, owns_at, holds_at};
 
 // The bits of all own words.
 const OWNS: u32 = 0b1010_1010;
@@ -19,7 +19,7 @@ pub struct Sharers {
 impl Sharers {
     // Of address a, before any task was asked.
     pub fn new(a: u32) -> Sharers
-        ensures address { result.address ≡ a }
+        ensures address { shared_address result ≡ a }
         ensures none { SharersOf [] result }
     {
         Sharers {
@@ -32,7 +32,7 @@ impl Sharers {
     pub fn add(&mut self, k: usize, share: u32)
         requires place { k < 4 }
         requires bits { share < 4 }
-        ensures address { self.new.address ≡ self.old.address }
+        ensures address { shared_address self.new ≡ shared_address self.old }
         ensures more { (vs : List Version) (v : Version) → SharersOf vs self.old → length vs ≡ k → share ≡ share_of v → SharersOf (vs ++ v ∷ []) self.new }
     {
         self.shares |= share << (2 * k);
@@ -41,7 +41,7 @@ impl Sharers {
     // Forgets all but the first n: where all four processors were asked, those past the tasks that there are.
     pub fn keep(&mut self, n: usize)
         requires { n ≤ 4 }
-        ensures address { self.new.address ≡ self.old.address }
+        ensures address { shared_address self.new ≡ shared_address self.old }
         ensures first { (vs : List Version) → SharersOf vs self.old → SharersOf (take n vs) self.new }
     {
         self.shares &= (1 << (2 * n)) - 1;

@@ -4,7 +4,7 @@ ghost use Rattle.std.specs.Prelude.{◌≡◌, ℕ, ◌<◌, ◌≤◌, false, L
 ghost use Rattle.versions.specs.ClassSets.{has};
 ghost use Rattle.versions.specs.Plain.{holds_class};
 ghost use Rattle.versions.specs.Tables.{Table, task_by, Fitting, HeldIn, last_that, with_processor, start_place, active_place, access_place, squash_place, commit_place, replace_place};
-ghost use Rattle.versions.specs.Sharers.{SharersIn};
+ghost use Rattle.versions.specs.Sharers.{shared_address, SharersIn};
 ghost use Rattle.versions.specs.Versions.{is_own, share_of, squashed_by};
 
 use crate::class_set::ClassSet;
@@ -55,7 +55,7 @@ pub trait TaskTable {
     // The sharers of a. All are asked, as what is sought of them may lie at any place; and of four processors, however many tasks there
     // are, as the number of rounds can't be foreseen else.
     fn sharers(&self, a: u32) -> Sharers
-        ensures address { result.address ≡ a }
+        ensures address { shared_address result ≡ a }
         ensures tasks { SharersIn (processors self.now) (table self.now) result }
     {
         let mut sharers = Sharers::new(a);
@@ -71,7 +71,7 @@ pub trait TaskTable {
     fn nearest(&self, k: usize, sharers: Sharers) -> Option<Processor>
         requires bound { k ≤ length (processors self.now) }
         requires sharers { SharersIn (processors self.now) (table self.now) sharers }
-        ensures { result ≡ last_that (λ q. is_own (table self.now q sharers.address)) (take k (processors self.now)) }
+        ensures { result ≡ last_that (λ q. is_own (table self.now q (shared_address sharers))) (take k (processors self.now)) }
     {
         let place = sharers.owner_before(k)?;
         Some(self.order().at(place))
@@ -82,7 +82,7 @@ pub trait TaskTable {
     fn squashed(&self, k: usize, sharers: Sharers) -> usize
         requires bound { k ≤ length (processors self.now) }
         requires sharers { SharersIn (processors self.now) (table self.now) sharers }
-        ensures { result ≡ squashed_by (map (λ q. table self.now q sharers.address) (drop k (processors self.now))) }
+        ensures { result ≡ squashed_by (map (λ q. table self.now q (shared_address sharers)) (drop k (processors self.now))) }
     {
         match sharers.squashed_from(k) {
             Some(place) => self.order().len() - place,

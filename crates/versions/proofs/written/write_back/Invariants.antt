@@ -1,4 +1,5 @@
 use Rattle.std.proofs.Common.{◌≡◌, ℕ}
+use Rattle.versions.specs.ClassSets.{bits_of}
 use Rattle.versions.proofs.Writing.{WrittenBelow, LeftFrom}
 use Rattle.versions.proofs.written.write_back.Given as goal
 
@@ -13,4 +14,4 @@ invariant-loop-c g l =
 
 -- each class that is taken out leaves a set with fewer bits
 abbrev pub decreases-loop-c : goal.decreases-loop-c
-decreases-loop-c g l = l.left.bits
+decreases-loop-c g l = bits_of l.left

@@ -1,3 +1,4 @@
+use Rattle.versions.specs.ClassSets.{bits_of}
 use Rattle.snooping.specs.Lines.{unlinked}
 use Rattle.snooping.proofs.Sweeping.{Swept}
 use Rattle.snooping.proofs.cache.Cache.unlink.Given as goal
@@ -7,4 +8,4 @@ abbrev pub invariant-loop-c : goal.invariant-loop-c
 invariant-loop-c l = Swept (unlinked l.order) l.left l.fn.self.lines l.self.lines
 
 abbrev pub decreases-loop-c : goal.decreases-loop-c
-decreases-loop-c l = l.left.bits
+decreases-loop-c l = bits_of l.left

@@ -1,6 +1,5 @@
 use Rattle.std.proofs.Common.{◌≡◌, ℕ, ◌<◌, false, get_or}
-use Rattle.versions.specs.ClassSets.{has}
-use Rattle.snooping.specs.Grid.{no_class}
+use Rattle.versions.specs.ClassSets.{has, no_class}
 use Rattle.snooping.proofs.caches.Caches.left_over.Given as goal
 
 -- the classes of the processors so far are in the set, but for those that are running

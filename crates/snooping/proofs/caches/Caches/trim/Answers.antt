@@ -1,9 +1,9 @@
 use Rattle.std.proofs.Common.{◌≡◌, ◌<◌, false, ℕ, List, map, get_or, is_some, set, sym, refl, ap, ◌∙◌, subst, arith}
 use Rattle.snooping.specs.declared.state.LineEvent.TheVariants.{Squash}
-use Rattle.versions.specs.ClassSets.{has}
+use Rattle.versions.specs.ClassSets.{has, no_class}
 use Rattle.versions.specs.Orders.{place_in}
 use Rattle.snooping.specs.Caches.{lines_in, processors_of}
-use Rattle.snooping.specs.Grid.{no_cache, no_class, line_in, Tagged, Wide, Covered}
+use Rattle.snooping.specs.Grid.{no_cache, line_in, Tagged, Wide, Covered}
 use Rattle.snooping.specs.Lines.{unlinked, ended}
 use Rattle.snooping.specs.declared.cache.Cache.{Cache}
 use Rattle.snooping.proofs.Covering.{covered-mapped, covered-ended, pointer-stays, outside-both}
