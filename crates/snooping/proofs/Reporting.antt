@@ -1,6 +1,6 @@
 -- The report of a turn, said of an order of processors and a table of versions.
 use Rattle.std.proofs.Common.{◌≡◌, ℕ, suc, Bool, true, false, cond, not, ◌&&◌, ◌||◌, List, [], ◌∷◌, map, length, take, drop, is_some, Some, None, Ok, Err, Option, Result, sym, refl, ap, ◌∙◌, arith}
-use Rattle.std.specs.Option.{option_or}
+use Rattle.std.specs.Option.{option_map, option_or}
 use Rattle.std.specs.List.{list_any}
 use Rattle.memory.specs.Client.{count_below}
 use Rattle.versions.specs.declared.refusal.Refusal.{Refusal}
@@ -10,12 +10,11 @@ use Rattle.versions.specs.Cuts.{before, past}
 use Rattle.versions.specs.Orders.{place_in, Apart}
 use Rattle.versions.specs.Plain.{Task, Plain, is_on, refusal_of, given, answer_of}
 use Rattle.versions.specs.Conditions.{answer_unless}
-use Rattle.versions.specs.Tables.{Table, task_by, plain_of, last_own}
+use Rattle.versions.specs.Tables.{Table, task_by, plain_of, last_that, last_own}
 use Rattle.versions.specs.Versions.{is_own, is_held}
 use Rattle.versions.proofs.Tabling.{placed, task_on-is, before-is, past_is, given-commit}
 use Rattle.snooping.specs.declared.report.BusReport.{BusReport}
 use Rattle.snooping.specs.Grid.{holder}
-use Rattle.versions.specs.Tables.{last_that}
 use Rattle.snooping.specs.Report.{quiet, bus_read, bus_write, written_back, supplied_by, last_owner, reached, powers, written_last, report_by, report_of, report_after}
 
 pub no_answer : (n : ℕ) (e : Refusal) → ◌≡◌ {A = Result ℕ Refusal} (Ok n) (Err e) → ⊥
@@ -41,7 +40,14 @@ unreported old s t x e = go (refusal_of s t) refl
 module _ (table : Table) where
   owner-is : (a : ℕ) (qs : List ℕ) → last_owner a (map (task_by table) qs) ≡ last_that (λ q. is_own (table q a)) qs
   owner-is a [] = refl
-  owner-is a (q ∷ qs) = ap (λ (o : Option ℕ). option_or o (cond (is_own (table q a)) (Some q) None)) (owner-is a qs)
+  owner-is a (q ∷ qs) =
+      go (last_that (λ t. is_own (t.at a)) (map (task_by table) qs)) (is_own (table q a))
+      ∙ ap (λ (o : Option ℕ). option_or o (cond (is_own (table q a)) (Some q) None)) (owner-is a qs)
+    where
+      go : (o : Option Task) (u : Bool) → option_map (λ t. t.on) (option_or o (cond u (Some (task_by table q)) None)) ≡ option_or (option_map (λ t. t.on) o) (cond u (Some q) None)
+      go None true = refl
+      go None false = refl
+      go (Some t) u = refl
 
   holds-is : (a : ℕ) (qs : List ℕ) → list_any (λ t. is_held (t.at a)) (map (task_by table) qs) ≡ is_some (holder table a qs)
   holds-is a [] = refl

@@ -1,6 +1,6 @@
 -- What the bus reports of a turn, from the state of the plain store before it.
 use Rattle.std.specs.Prelude.{ℕ, ◌+◌, ◌^◌, cond, not, ◌&&◌, List, [], ◌∷◌, map, length, Some, None, Option}
-use Rattle.std.specs.Option.{option_or}
+use Rattle.std.specs.Option.{option_map}
 use Rattle.std.specs.List.{list_any}
 use Rattle.versions.specs.declared.refusal.Refusal.{Refusal}
 use Rattle.versions.specs.declared.turn.Turn.{Turn}
@@ -8,7 +8,7 @@ use Rattle.versions.specs.declared.turn.Turn.TheVariants.{Start, Load, Store, Sq
 use Rattle.versions.specs.declared.version.Version.{Version}
 use Rattle.versions.specs.Cuts.{before, past}
 use Rattle.versions.specs.Plain.{Task, Plain, is_on, task_on, refusal_of, given}
-use Rattle.versions.specs.Tables.{last_own}
+use Rattle.versions.specs.Tables.{last_that, last_own}
 use Rattle.versions.specs.Versions.{is_own, is_held}
 use Rattle.snooping.specs.declared.report.BusKind.{BusKind}
 use Rattle.snooping.specs.declared.report.BusKind.TheVariants.{Quiet, BusRead, BusWrite, BusWback}
@@ -48,8 +48,7 @@ supplied_by None = Memory
 supplied_by (Some p) = Processor p
 
 abbrev pub last_owner : ℕ → List Task → Option ℕ
-last_owner a [] = None
-last_owner a (t ∷ ts) = option_or (last_owner a ts) (cond (is_own (t.at a)) (Some t.on) None)
+last_owner a ts = option_map (λ t. t.on) (last_that (λ t. is_own (t.at a)) ts)
 
 -- whom the invalidations of a write reach among the later tasks: each up to the next with an own word, and that one only if
 -- it has a mark too
