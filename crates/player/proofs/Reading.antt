@@ -2,9 +2,8 @@
 use Rattle.std.proofs.Common.{◌≡◌, ℕ, ◌+◌, ◌-◌, ◌<◌, ◌≤◌, Bool, true, false, cond, eqb, ltb, List, [], ◌∷◌, ◌++◌, length, set, Some, None, Ok, Err, Option, Result, sym, refl, ap, ◌∙◌, subst, arith}
 use Rattle.std.proofs.lemmas.List.{append-nil, append_assoc, length_push}
 use Rattle.std.proofs.lemmas.Bool.{cond-true, cond-false, leb-true, leb-false, le-ltb, lt-ltb}
-use Rattle.std.specs.List.{onto_first}
+use Rattle.std.specs.List.{onto_first, before_first}
 use Rattle.versions.specs.declared.turn.Turn.{Turn}
-use Rattle.versions.specs.Cuts.{before}
 use Rattle.player.specs.declared.fault.ListFault.TheVariants.{Full}
 use Rattle.player.specs.declared.fault.TextWhy.{TextWhy}
 use Rattle.player.specs.declared.fault.TextWhy.TheVariants as why
@@ -15,7 +14,7 @@ use Rattle.player.specs.Splits.{line_end, space, text_lines}
 use Rattle.player.specs.Text.{Reading, refused_at, turn_before, line_read, lines_read, written}
 use Rattle.player.specs.Tokens.{Word, verb, PlacedWord, part, after_part, verb_token}
 use Rattle.player.specs.Verbs.{verb_named}
-use Rattle.player.proofs.Following.{split-first, part-is, after-part, word_in}
+use Rattle.player.proofs.Following.{before_sep-cons, split-first, part-is, after-part, word_in}
 
 -- a verb and the parts after it are the parts of the line
 pub turn-here : (s : List ℕ) → turn_of_verb (verb_named (part s)) (parts_left (after_part s)) ≡ turn_of (first_line s)
@@ -23,12 +22,12 @@ turn-here s =
     ap (turn_of_verb (verb_named (part s))) (after-part s).0
     ∙ sym (ap turn_of_parts (split-first space (first_line s) ∙ ap (λ (l : List ℕ). l ∷ parts_left s) (part-is s)))
 
-pub after-length : (sep : ℕ) (s t : List ℕ) → after sep s ≡ Some t → length s ≡ (length (before (λ b. eqb b sep) s) + 1) + length t
+pub after-length : (sep : ℕ) (s t : List ℕ) → after sep s ≡ Some t → length s ≡ (length (before_first (λ b. eqb b sep) s) + 1) + length t
 after-length sep [] t is = let z : ◌≡◌ {A = ℕ} 0 1 = cc in absurd (omega arith)
-after-length sep (b ∷ bs) t is = go (eqb b sep) is (after-length sep bs t)
+after-length sep (b ∷ bs) t is = go (eqb b sep) is (after-length sep bs t) ∙ ap (λ (l : List ℕ). (length l + 1) + length t) (sym (before_sep-cons sep b bs))
   where
     front : List ℕ
-    front = before (λ c. eqb c sep) bs
+    front = before_first (λ c. eqb c sep) bs
 
     go : (u : Bool) → cond u (Some bs) (after sep bs) ≡ Some t → (after sep bs ≡ Some t → length bs ≡ (length front + 1) + length t)
         → length (b ∷ bs) ≡ (length (cond u [] (b ∷ front)) + 1) + length t
@@ -55,7 +54,8 @@ lines-by at free b line (Some t) = lines_cons at free (b ∷ line) t
 read_first : (at free : ℕ) (s : List ℕ) → 0 < length s
     → lines_read at free (text_lines s) ≡ by_line at free (turn_of (first_line s)) (length (first_line s)) (after line_end s)
 read_first at free [] some = absurd (omega arith)
-read_first at free (b ∷ bs) some = go (eqb b line_end)
+read_first at free (b ∷ bs) some =
+    go (eqb b line_end) ∙ ap (λ (l : List ℕ). by_line at free (turn_of l) (length l) (after line_end (b ∷ bs))) (sym (before_sep-cons line_end b bs))
   where
     go : (u : Bool) → lines_read at free (cond u ([] ∷ text_lines bs) (onto_first b (text_lines bs)))
         ≡ by_line at free (turn_of (cond u [] (b ∷ first_line bs))) (length (cond u [] (b ∷ first_line bs))) (cond u (Some bs) (after line_end bs))

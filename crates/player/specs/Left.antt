@@ -1,8 +1,7 @@
 -- What is left of a line from a place in it, and what is done with it.
 use Rattle.std.specs.Prelude.{◌≡◌, ℕ, suc, cond, List, [], ◌∷◌, length, Some, None, Ok, Err, Option, Result, ◌==◌, slice_set}
-use Rattle.std.specs.List.{slice_split}
+use Rattle.std.specs.List.{slice_split, before_first}
 use Rattle.versions.specs.declared.turn.Turn.{Turn}
-use Rattle.versions.specs.Cuts.{before}
 use Rattle.player.specs.declared.fault.ListFault.TheVariants.{Full}
 use Rattle.player.specs.declared.fault.TextWhy.{TextWhy}
 use Rattle.player.specs.declared.fault.TextWhy.TheVariants as why
@@ -15,7 +14,7 @@ use Rattle.player.specs.Tokens.{Word, verb_seen, part_length}
 
 -- a text's first line: the bytes before the first line end, or all where there is none
 abbrev pub first_line : List ℕ → List ℕ
-first_line text = before (λ b. b == line_end) text
+first_line text = before_first (λ b. b == line_end) text
 
 -- the bytes after the first separator, if there is one
 abbrev pub after : ℕ → List ℕ → Option (List ℕ)

@@ -1,7 +1,7 @@
 -- The plain store's turns, said of an order of processors and a table of versions. Every store that keeps such a table
 -- uses these laws.
 use Rattle.std.proofs.Common.{◌≡◌, ℕ, zero, suc, ◌-◌, ◌<◌, ◌≤◌, Bool, true, false, cond, ◌&&◌, ◌||◌, eqb, List, [], ◌∷◌, ◌++◌, map, length, get_or, take, drop, is_some, Some, None, Option, sym, refl, ap, ◌∙◌, subst, arith}
-use Rattle.std.specs.List.{list_any}
+use Rattle.std.specs.List.{list_any, before_first, after_first}
 use mathlib.Core.Path.{fun_ext}
 use Rattle.std.specs.Option.{option_map}
 use Rattle.std.proofs.lemmas.List.{map-append, length-map, length-drop}
@@ -9,12 +9,12 @@ use Rattle.std.proofs.lemmas.Bool.{eq-eqb, eqb-true, cond-true, cond-false}
 use Rattle.memory.specs.Client.{count_below}
 use Rattle.versions.specs.declared.version.Version.{Version}
 use Rattle.versions.specs.declared.turn.Turn.TheVariants.{Start, Load, Store, Squash, Commit, Replace}
-use Rattle.versions.specs.Cuts.{before, up_to, past, changed, but_last}
+use Rattle.versions.specs.Cuts.{up_to, changed, but_last}
 use Rattle.versions.specs.Orders.{place_in, Apart}
 use Rattle.versions.specs.Versions.{no_version, is_own, with_load, with_store, seen_by, squashed_by}
 use Rattle.versions.specs.Plain.{Task, fresh, is_on, changed_at, column, task_on, laid_over_all, written_to, given, moved}
 use Rattle.versions.specs.Tables.{Table, task_by, plain_of, with_version}
-use Rattle.versions.proofs.Cutting.{before_at, up_to-at, past-at, changed-at, but_last-map}
+use Rattle.versions.proofs.Cutting.{before_first_at, up_to-at, after_first_at, changed-at, but_last-map}
 use Rattle.versions.proofs.Ordering.{place_none, place-none-cons, apart-take}
 use Rattle.versions.proofs.Turning.{task_on-at}
 
@@ -86,18 +86,18 @@ module _ (table : Table) where
     order-parts : map (task_by table) ps ≡ map (task_by table) (take k ps) ++ task_by table p ∷ map (task_by table) (drop (suc k) ps)
     order-parts = ap (map (task_by table)) x.parts ∙ map-append (task_by table) (take k ps) (p ∷ drop (suc k) ps)
 
-    pub before-is : before (is_on p) (map (task_by table) ps) ≡ map (task_by table) (take k ps)
-    before-is = ap (before (is_on p)) order-parts
-        ∙ before_at (is_on p) (task_by table p) (map (task_by table) (drop (suc k) ps)) (here_on p) (map (task_by table) (take k ps)) (none-on (take k ps) p x.none)
+    pub before_first_is : before_first (is_on p) (map (task_by table) ps) ≡ map (task_by table) (take k ps)
+    before_first_is = ap (before_first (is_on p)) order-parts
+        ∙ before_first_at (is_on p) (task_by table p) (map (task_by table) (drop (suc k) ps)) (here_on p) (map (task_by table) (take k ps)) (none-on (take k ps) p x.none)
 
     pub up_to-is : up_to (is_on p) (map (task_by table) ps) ≡ map (task_by table) (take (suc k) ps)
     up_to-is = ap (up_to (is_on p)) order-parts
         ∙ (up_to-at (is_on p) (task_by table p) (map (task_by table) (drop (suc k) ps)) (here_on p) (map (task_by table) (take k ps)) (none-on (take k ps) p x.none)
         ∙ sym (ap (map (task_by table)) x.upto ∙ map-append (task_by table) (take k ps) (p ∷ [])))
 
-    pub past_is : past (is_on p) (map (task_by table) ps) ≡ map (task_by table) (drop (suc k) ps)
-    past_is = ap (past (is_on p)) order-parts
-        ∙ past-at (is_on p) (task_by table p) (map (task_by table) (drop (suc k) ps)) (here_on p) (map (task_by table) (take k ps)) (none-on (take k ps) p x.none)
+    pub after_first_is : after_first (is_on p) (map (task_by table) ps) ≡ map (task_by table) (drop (suc k) ps)
+    after_first_is = ap (after_first (is_on p)) order-parts
+        ∙ after_first_at (is_on p) (task_by table p) (map (task_by table) (drop (suc k) ps)) (here_on p) (map (task_by table) (take k ps)) (none-on (take k ps) p x.none)
 
     pub task_on-is : task_on p (map (task_by table) ps) ≡ task_by table p
     task_on-is = ap (task_on p) order-parts
@@ -192,7 +192,7 @@ module _ (ws : List ℕ) (ps : List ℕ) (table : Table) (p k : ℕ) (apart : Ap
   moved-load a = ap (λ (o : List Task). record { memory = ws; order = o }) (changed-is table ps p k a with_load apart place)
 
   pub given-store : (a w : ℕ) → given (plain_of ws ps table) (Store p a w) ≡ squashes table ps k a
-  given-store a w = ap squashed_by (ap (column a) (past_is table ps p k (placed ps p k place)) ∙ column-is table a (drop (suc k) ps))
+  given-store a w = ap squashed_by (ap (column a) (after_first_is table ps p k (placed ps p k place)) ∙ column-is table a (drop (suc k) ps))
 
   pub moved_store : (a w : ℕ) → moved (plain_of ws ps table) (Store p a w)
       ≡ plain_of ws (take (length ps - squashes table ps k a) ps) (with_version table p a (with_store w (table p a)))
@@ -206,21 +206,21 @@ module _ (ws : List ℕ) (ps : List ℕ) (table : Table) (p k : ℕ) (apart : Ap
 
   pub given-squash : given (plain_of ws ps table) (Squash p) ≡ length ps - k
   given-squash =
-      ap (λ (l : List Task). suc (length l)) (past_is table ps p k (placed ps p k place))
+      ap (λ (l : List Task). suc (length l)) (after_first_is table ps p k (placed ps p k place))
       ∙ omega (arith, length-map (drop (suc k) ps) (task_by table), length-drop (suc k) ps, (placed ps p k place).within)
 
   pub moved-squash : moved (plain_of ws ps table) (Squash p) ≡ plain_of ws (take k ps) table
-  moved-squash = ap (λ (o : List Task). record { memory = ws; order = o }) (before-is table ps p k (placed ps p k place))
+  moved-squash = ap (λ (o : List Task). record { memory = ws; order = o }) (before_first_is table ps p k (placed ps p k place))
 
   pub given-commit : given (plain_of ws ps table) (Commit p) ≡ count_below (λ a. is_own (table p a)) (length ws)
   given-commit = ap (λ (t : Task). count_below (λ a. is_own (t.at a)) (length ws)) (task_on-is table ps p k (placed ps p k place))
 
   pub moved-commit : k ≡ 0 → moved (plain_of ws ps table) (Commit p) ≡ plain_of (laid_over_all (table p) ws) (drop 1 ps) table
   moved-commit first =
-      let front : before (is_on p) (map (task_by table) ps) ≡ [] = before-is table ps p k (placed ps p k place) ∙ ap (λ (n : ℕ). map (task_by table) (take n ps)) first in
-      let back : past (is_on p) (map (task_by table) ps) ≡ map (task_by table) (drop 1 ps) = past_is table ps p k (placed ps p k place) ∙ ap (λ (n : ℕ). map (task_by table) (drop (suc n) ps)) first in
-      ap (λ (t : Task). record { memory = laid_over_all t.at ws; order = before (is_on p) (map (task_by table) ps) ++ past (is_on p) (map (task_by table) ps) }) (task_on-is table ps p k (placed ps p k place))
-      ∙ (ap (λ (o : List Task). record { memory = laid_over_all (table p) ws; order = o ++ past (is_on p) (map (task_by table) ps) }) front
+      let front : before_first (is_on p) (map (task_by table) ps) ≡ [] = before_first_is table ps p k (placed ps p k place) ∙ ap (λ (n : ℕ). map (task_by table) (take n ps)) first in
+      let back : after_first (is_on p) (map (task_by table) ps) ≡ map (task_by table) (drop 1 ps) = after_first_is table ps p k (placed ps p k place) ∙ ap (λ (n : ℕ). map (task_by table) (drop (suc n) ps)) first in
+      ap (λ (t : Task). record { memory = laid_over_all t.at ws; order = before_first (is_on p) (map (task_by table) ps) ++ after_first (is_on p) (map (task_by table) ps) }) (task_on-is table ps p k (placed ps p k place))
+      ∙ (ap (λ (o : List Task). record { memory = laid_over_all (table p) ws; order = o ++ after_first (is_on p) (map (task_by table) ps) }) front
       ∙ ap (λ (o : List Task). record { memory = laid_over_all (table p) ws; order = o }) back)
 
   pub given-replace : (a : ℕ) → given (plain_of ws ps table) (Replace p a) ≡ cond (is_own (table p a)) 1 0
