@@ -18,7 +18,7 @@ use Rattle.versions.proofs.Classes.{unheld-none}
 use Rattle.versions.proofs.Fits.{none-join, without_all-value, front_out}
 use Rattle.versions.specs.Taken.{Took}
 use Rattle.versions.proofs.Judging.{Agrees, ok-start, ok-access, ok-commit, ok-replace}
-use Rattle.versions.proofs.Ordering.{apart-push, apart-take, apart-drop, none-some}
+use Rattle.versions.proofs.Ordering.{apart-push, apart-take, apart-drop, none-some, place_in-cons, place-first}
 use Rattle.versions.proofs.Serving.{Served, refused-by, class-free, serve-start, serve-load, serve-store, serve-squash, serve-commit, serve-replace}
 use Rattle.versions.proofs.Tabling.{placed, none-past, place-take, squashes, squashes-le}
 use Rattle.snooping.specs.declared.cache.Cache.{Cache}
@@ -124,11 +124,11 @@ last-passes f (r ∷ qs) q e = go (last_that f qs) refl (f r) refl e (λ i. last
     go (Some x) i t s e again =
         let is : Some x ≡ Some q = sym (ap (λ (o : Option ℕ). option_or o (cond (f r) (Some r) None)) i) ∙ e in
         let y = again (i ∙ is) in
-        (y.0, more (eqb r q) (place_in qs q) y.1)
+        (y.0, ap is_some (place_in-cons r qs q) ∙ more (eqb r q) (place_in qs q) y.1)
     go None i true s e again =
         let is : Some r ≡ Some q = sym (ap (λ (o : Option ℕ). option_or o (cond (f r) (Some r) None)) i ∙ ap (λ (t : Bool). cond t (Some r) None) s) ∙ e in
         let same : r ≡ q = cc in
-        (ap f (sym same) ∙ s, subst (λ (x : ℕ). is_some (place_in (r ∷ qs) x) ≡ true) same (ap is_some (cond-true (eqb r r) (Some 0) (option_map suc (place_in qs r)) (eq-eqb r r refl))))
+        (ap f (sym same) ∙ s, subst (λ (x : ℕ). is_some (place_in (r ∷ qs) x) ≡ true) same (ap is_some (place-first r qs r (eq-eqb r r refl))))
     go None i false s e again =
         let is : None ≡ Some q = sym (ap (λ (o : Option ℕ). option_or o (cond (f r) (Some r) None)) i ∙ ap (λ (t : Bool). cond t (Some r) None) s) ∙ e in
         absurd (none-some q (sym is))
