@@ -1,5 +1,5 @@
 -- Laws of the words in a row of bytes: their number, each word, and what writing one word leaves.
-use Rattle.std.proofs.Common.{◌≡◌, ℕ, ◌+◌, ◌*◌, ◌/◌, ◌%◌, ◌^◌, ◌<◌, ◌≤◌, ◌≢◌, suc, zero, List, [], ◌∷◌, ◌++◌, Some, None, slice_get, length, get_or, take, drop, set, sym, ap, ◌∙◌, ⊎_elim, div-one, refl, arith}
+use Rattle.std.proofs.Common.{◌≡◌, ℕ, ◌+◌, ◌*◌, ◌/◌, ◌^◌, ◌<◌, ◌≤◌, ◌≢◌, suc, zero, List, [], ◌∷◌, ◌++◌, Some, None, slice_get, length, get_or, take, drop, set, sym, ap, ◌∙◌, ⊎_elim, refl, arith}
 use Rattle.std.proofs.lemmas.Nat.{from_le_bytes-to_le_bytes_4}
 use Rattle.std.proofs.lemmas.Grind.{common_steps}
 use Rattle.std.proofs.lemmas.List.FromFn.{length-map-range_with_len, get_or-map-range_with_len}
@@ -7,9 +7,10 @@ use Rattle.std.proofs.lemmas.List.{length-set, get_or-set_same, get_or-set_other
 use Rattle.std.proofs.lemmas.List.{drop-drop, get_or-take, get_or-drop}
 use Rattle.std.proofs.lemmas.Option.{slice_get-get_or, slice_get_past}
 use Rattle.std.proofs.lemmas.Bool.{cases_eq, cond_below}
+use Rattle.std.specs.Int.{byte_at}
 use Rattle.std.specs.Simd.{first_chunks}
 use borrow.Rule.Slice.PartMut.{put_mid}
-use Rattle.memory.specs.Bytes.{byte_of, from_bytes, word_at, words_of, spare_bytes, with_word, written_bytes}
+use Rattle.memory.specs.Bytes.{from_bytes, word_at, words_of, spare_bytes, with_word, written_bytes}
 use Rattle.memory.specs.Words.{written_words}
 
 pub length-words_of : (bs : List ℕ) → length (words_of bs) ≡ length bs / 4
@@ -23,8 +24,8 @@ unfolding words_of
 get_or-words_of bs a h = get_or-map-range_with_len (word_at bs) 0 (length bs / 4) a a 0 h (omega arith)
 
 -- a word is put together again from its four bytes
-pub from_bytes-byte_of : (w : ℕ) → w < 2 ^ 32 → from_bytes (byte_of 0 w) (byte_of 1 w) (byte_of 2 w) (byte_of 3 w) ≡ w
-from_bytes-byte_of w h = rw (div-one w) (from_le_bytes-to_le_bytes_4 w h)
+pub from_bytes-byte_at : (w : ℕ) → w < 2 ^ 32 → from_bytes (byte_at 0 w) (byte_at 1 w) (byte_at 2 w) (byte_at 3 w) ≡ w
+from_bytes-byte_at w h = from_le_bytes-to_le_bytes_4 w h
 
 -- four values at k and after it
 abbrev four : List ℕ → ℕ → ℕ → ℕ → ℕ → ℕ → List ℕ
@@ -47,13 +48,13 @@ spare-with_word bs a w h = grind (arith, common_steps)
 
 pub word_at-with_word-same : (bs : List ℕ) (a w : ℕ) → a < length bs / 4 → w < 2 ^ 32 → word_at (with_word bs a w) a ≡ w
 word_at-with_word-same bs a w h f =
-    let g = get_or-four bs (4 * a) (byte_of 0 w) (byte_of 1 w) (byte_of 2 w) (byte_of 3 w) (omega arith) in
-    rw (g.0, g.1, g.2, g.3) (from_bytes-byte_of w f)
+    let g = get_or-four bs (4 * a) (byte_at 0 w) (byte_at 1 w) (byte_at 2 w) (byte_at 3 w) (omega arith) in
+    rw (g.0, g.1, g.2, g.3) (from_bytes-byte_at w f)
 
 pub word_at-with_word-other : (bs : List ℕ) (a b w : ℕ) → b ≢ a → word_at (with_word bs a w) b ≡ word_at bs b
 word_at-with_word-other bs a b w ne =
     let o : (j i : ℕ) → j < 4 → i ≡ 4 * b + j → get_or (with_word bs a w) i 0 ≡ get_or bs i 0 =
-    λ j i l e. get_or-four-other bs (4 * a) i (byte_of 0 w) (byte_of 1 w) (byte_of 2 w) (byte_of 3 w) (omega arith) (omega arith) (omega arith) (omega arith) in
+    λ j i l e. get_or-four-other bs (4 * a) i (byte_at 0 w) (byte_at 1 w) (byte_at 2 w) (byte_at 3 w) (omega arith) (omega arith) (omega arith) (omega arith) in
     rw (o 0 (4 * b) (omega arith) (omega arith), o 1 (4 * b + 1) (omega arith) (omega arith), o 2 (4 * b + 2) (omega arith) (omega arith), o 3 (4 * b + 3) (omega arith) (omega arith))
 
 -- writing a word into the bytes writes it into the words
@@ -107,14 +108,14 @@ pub record Put (bs xs : List ℕ) (a w : ℕ) : Type 0 where
   pub words : words_of xs ≡ written_words (words_of bs) a w
   pub beside : spare_bytes xs ≡ spare_bytes bs
 
-pub put-word : (bs ys : List ℕ) (a n w : ℕ) → a < length bs / 4 → n ≡ 4 → w < 2 ^ 32 → ys ≡ w % 256 ∷ byte_of 1 w ∷ byte_of 2 w ∷ byte_of 3 w ∷ []
+pub put-word : (bs ys : List ℕ) (a n w : ℕ) → a < length bs / 4 → n ≡ 4 → w < 2 ^ 32 → ys ≡ byte_at 0 w ∷ byte_at 1 w ∷ byte_at 2 w ∷ byte_at 3 w ∷ []
     → Put bs (put_mid (4 * a) n bs ys) a w
 put-word bs ys a n w h long f e =
     let e1 : 4 * a + 1 ≡ suc (4 * a) = omega arith in
     let e2 : 4 * a + 2 ≡ suc (suc (4 * a)) = omega arith in
     let e3 : 4 * a + 3 ≡ suc (suc (suc (4 * a))) = omega arith in
     let put : put_mid (4 * a) n bs ys ≡ with_word bs a w =
-    rw (e, long, div-one w, e1, e2, e3) (put-four (4 * a) bs (w % 256) (byte_of 1 w) (byte_of 2 w) (byte_of 3 w) (omega arith)) in
+    rw (e, long, e1, e2, e3) (put-four (4 * a) bs (byte_at 0 w) (byte_at 1 w) (byte_at 2 w) (byte_at 3 w) (omega arith)) in
     record {
       row = put ∙ cond_below a (length bs / 4) (with_word bs a w) bs h;
       words = ap words_of put ∙ (words_of-with_word bs a w h f ∙ cond_below a (length (words_of bs)) (set (words_of bs) a w) (words_of bs) (rw length-words_of h));

@@ -1,12 +1,9 @@
 -- Words in a row of bytes: word a lies in bytes 4a to 4a+3, lowest byte first.
-use Rattle.std.specs.Prelude.{ℕ, ◌+◌, ◌*◌, ◌/◌, ◌%◌, ◌^◌, cond, List, map, length, drop, nat_lt, slice_index, slice_set}
+use Rattle.std.specs.Prelude.{ℕ, ◌+◌, ◌*◌, ◌/◌, cond, List, map, length, drop, nat_lt, slice_index, slice_set}
+use Rattle.std.specs.Int.{byte_at}
 use Rattle.std.specs.List.{range_with_len}
 use Rattle.std.proofs.lemmas.List.FromFn.{length-map-range_with_len}
 use Rattle.memory.specs.Words.{MemorySize}
-
--- byte i of the word w, lowest first
-abbrev pub byte_of : ℕ → ℕ → ℕ
-byte_of i w = w / 256 ^ i % 256
 
 -- the word of four bytes, lowest first
 abbrev pub from_bytes : ℕ → ℕ → ℕ → ℕ → ℕ
@@ -27,7 +24,7 @@ spare_bytes bs = drop (4 * (length bs / 4)) bs
 -- the row with w as its word a
 abbrev pub with_word : List ℕ → ℕ → ℕ → List ℕ
 with_word bs a w =
-    slice_set (slice_set (slice_set (slice_set bs (4 * a) (byte_of 0 w)) (4 * a + 1) (byte_of 1 w)) (4 * a + 2) (byte_of 2 w)) (4 * a + 3) (byte_of 3 w)
+    slice_set (slice_set (slice_set (slice_set bs (4 * a) (byte_at 0 w)) (4 * a + 1) (byte_at 1 w)) (4 * a + 2) (byte_at 2 w)) (4 * a + 3) (byte_at 3 w)
 
 -- the row after w was written at word a; a refused write changes no byte
 abbrev pub written_bytes : List ℕ → ℕ → ℕ → List ℕ

@@ -1,12 +1,13 @@
 -- What is read is just what would be written.
 use Rattle.std.proofs.Common.{◌≡◌, ℕ, zero, suc, ◌+◌, ◌-◌, ◌^◌, ◌<◌, Bool, true, false, cond, not, eqb, ltb, List, [], ◌∷◌, ◌++◌, map, length, get_or, take, Some, None, Ok, Err, decimal, Option, Result, sym, refl, ap, ◌∙◌, subst, arith, MatchResult}
-use Rattle.std.specs.List.{flat_map}
+use Rattle.std.specs.List.{flat_map, join_with_byte}
 use Rattle.std.specs.Str.Parse.{digits_value}
 use Rattle.std.specs.Str.{all_ascii_digits, bytes_eq}
 use Rattle.std.proofs.lemmas.Fmt.{decimal-digits_value}
 use Rattle.std.proofs.lemmas.Slice.Eq.{bytes_eq-Decides}
 use Rattle.std.proofs.lemmas.List.{append_assoc, append-nil, length-append, take_at}
-use Rattle.std.proofs.lemmas.Bool.{and_parts, not-true, eqb-true, eqb-false, ltb-true}
+use Rattle.std.proofs.lemmas.List.Splits.{join_with_byte-slice_split}
+use Rattle.std.proofs.lemmas.Bool.{and_parts, not-true, eqb-false, ltb-true}
 use Rattle.versions.specs.declared.turn.Turn.{Turn}
 use Rattle.versions.specs.Turns.{turn_text}
 use Rattle.player.specs.declared.fault.ListFault.TheVariants.{Full}
@@ -17,36 +18,12 @@ use Rattle.player.specs.declared.verb.Verb.TheVariants as verb
 use Rattle.player.specs.Faults.{TextFault}
 use Rattle.player.specs.Fields.{plain_decimal, small, field_of}
 use Rattle.player.specs.Lines.{field_before, fields_of, turn_of_fields, turn_of_verb, turn_of_parts, turn_of, unfinished}
-use Rattle.player.specs.Left.{before, after, further}
-use Rattle.player.specs.Splits.{line_end, space, split, begun}
+use Rattle.player.specs.Splits.{line_end, space, text_lines, line_parts}
 use Rattle.player.specs.Text.{Reading, refused_at, turn_before, line_read, last_read, lines_read, text_read}
 use Rattle.player.specs.Verbs.{verbs, verb_text, named_in, verb_named, field_count, turn_with}
 use Rattle.player.specs.Writing.{line_of, text_of}
 use Rattle.player.specs.Canonical.{Exact}
-use Rattle.player.proofs.Following.{split-first}
 use Rattle.player.proofs.RoundTrip.{own, field_text, by-fields}
-
--- pieces put together again
-abbrev join : ℕ → List (List ℕ) → List ℕ
-join sep [] = []
-join sep (p ∷ []) = p
-join sep (p ∷ q ∷ qs) = p ++ sep ∷ join sep (q ∷ qs)
-
-join-begun : (sep b : ℕ) (p : List ℕ) (ps : List (List ℕ)) → join sep ((b ∷ p) ∷ ps) ≡ b ∷ join sep (p ∷ ps)
-join-begun sep b p [] = refl
-join-begun sep b p (q ∷ qs) = refl
-
-join-split : (sep : ℕ) (s : List ℕ) → join sep (split sep s) ≡ s
-join-split sep [] = refl
-join-split sep (b ∷ bs) = go (eqb b sep) refl (join-split sep bs)
-  where
-    go : (u : Bool) → eqb b sep ≡ u → join sep (split sep bs) ≡ bs → join sep (cond u ([] ∷ split sep bs) (begun b (split sep bs))) ≡ b ∷ bs
-    go true here ih =
-        ap (λ (ps : List (List ℕ)). join sep ([] ∷ ps)) (split-first sep bs)
-        ∙ (ap (λ (l : List ℕ). sep ∷ l) (ap (join sep) (sym (split-first sep bs)) ∙ ih) ∙ ap (λ (c : ℕ). c ∷ bs) (sym (eqb-true b sep here)))
-    go false here ih =
-        ap (λ (ps : List (List ℕ)). join sep (begun b ps)) (split-first sep bs)
-        ∙ (join-begun sep b (before sep bs) (further sep (after sep bs)) ∙ ap (λ (l : List ℕ). b ∷ l) (ap (join sep) (sym (split-first sep bs)) ∙ ih))
 
 -- a field that is read is its number in decimal
 plain-parts : (ds : List ℕ) → plain_decimal ds ≡ true → (all_ascii_digits ds ≡ true) × (0 < length ds) × (get_or ds 0 0 ≡ 48 → length ds ≡ 1)
@@ -119,29 +96,29 @@ turn-text verb.Squash fs long = by-fields (turn_with verb.Squash fs) ∙ ap (λ 
 turn-text verb.Commit fs long = by-fields (turn_with verb.Commit fs) ∙ ap (λ (l : List ℕ). verb_text verb.Commit ++ flat_map field_text l) (list-of-one fs long)
 turn-text verb.Replace fs long = by-fields (turn_with verb.Replace fs) ∙ ap (λ (l : List ℕ). verb_text verb.Replace ++ flat_map field_text l) (list-of-two fs long)
 
-join-fields : (word : List ℕ) (fs : List ℕ) → join space (word ∷ map decimal fs) ≡ word ++ flat_map field_text fs
+join-fields : (word : List ℕ) (fs : List ℕ) → join_with_byte space (word ∷ map decimal fs) ≡ word ++ flat_map field_text fs
 join-fields word [] = sym (append-nil word)
 join-fields word (f ∷ fs) = ap (λ (l : List ℕ). word ++ space ∷ l) (join-fields (decimal f) fs)
 
-parts-exact : (ps : List (List ℕ)) (t : Turn) → turn_of_parts ps ≡ Ok t → join space ps ≡ turn_text t
+parts-exact : (ps : List (List ℕ)) (t : Turn) → turn_of_parts ps ≡ Ok t → join_with_byte space ps ≡ turn_text t
 parts-exact [] t is = let z : ◌≡◌ {A = ℕ} 0 1 = cc in absurd (omega arith)
 parts-exact (word ∷ parts) t is = go (verb_named word) refl is
   where
-    go : (o : Option Verb) → verb_named word ≡ o → turn_of_verb o parts ≡ Ok t → join space (word ∷ parts) ≡ turn_text t
+    go : (o : Option Verb) → verb_named word ≡ o → turn_of_verb o parts ≡ Ok t → join_with_byte space (word ∷ parts) ≡ turn_text t
     go None named q = let z : ◌≡◌ {A = ℕ} 0 1 = cc in absurd (omega arith)
     go (Some v) named q = made (fields_of (field_count v) parts) refl q
       where
-        made : (r : Result (List ℕ) TextWhy) → fields_of (field_count v) parts ≡ r → turn_of_fields v r ≡ Ok t → join space (word ∷ parts) ≡ turn_text t
+        made : (r : Result (List ℕ) TextWhy) → fields_of (field_count v) parts ≡ r → turn_of_fields v r ≡ Ok t → join_with_byte space (word ∷ parts) ≡ turn_text t
         made (Err e) r-is h = let z : ◌≡◌ {A = ℕ} 0 1 = cc in absurd (omega arith)
         made (Ok fs) r-is h =
             let fields = fields-exact (field_count v) parts fs r-is in
             let t-is : turn_with v fs ≡ t = cc in
-            ap (λ (ls : List (List ℕ)). join space (word ∷ ls)) fields.0
+            ap (λ (ls : List (List ℕ)). join_with_byte space (word ∷ ls)) fields.0
             ∙ (join-fields word fs
             ∙ (ap (λ (l : List ℕ). l ++ flat_map field_text fs) (named-exact verbs word v named) ∙ (sym (turn-text v fs fields.1) ∙ ap turn_text t-is)))
 
 turn-exact : (line : List ℕ) (t : Turn) → turn_of line ≡ Ok t → line ≡ turn_text t
-turn-exact line t is = sym (join-split space line) ∙ parts-exact (split space line) t is
+turn-exact line t is = sym (join_with_byte-slice_split space line) ∙ parts-exact (line_parts line) t is
 
 -- the text s, from a place on, is the lines of the turns that were read, and then, after a fault, what begins at its place
 record ExactFrom (at : ℕ) (s : List ℕ) (r : Reading) : Type 0 where
@@ -176,28 +153,28 @@ last-exact : (at : ℕ) (s : List ℕ) → ExactFrom at s (last_read at s)
 last-exact at [] = record { left = []; whole = refl; ends = refl }
 last-exact at (b ∷ bs) = stops-here at (b ∷ bs) (unfinished (turn_of (b ∷ bs)))
 
-lines-exact : (at free : ℕ) (ps : List (List ℕ)) → ExactFrom at (join line_end ps) (lines_read at free ps)
+lines-exact : (at free : ℕ) (ps : List (List ℕ)) → ExactFrom at (join_with_byte line_end ps) (lines_read at free ps)
 lines-exact at free [] = record { left = []; whole = refl; ends = refl }
 lines-exact at free (line ∷ []) = last-exact at line
 lines-exact at free (line ∷ next ∷ lines) = go (turn_of line) refl (lines-exact ((at + length line) + 1) (free - 1) (next ∷ lines))
   where
     s : List ℕ
-    s = line ++ line_end ∷ join line_end (next ∷ lines)
+    s = line ++ line_end ∷ join_with_byte line_end (next ∷ lines)
 
     more : Reading
     more = lines_read ((at + length line) + 1) (free - 1) (next ∷ lines)
 
-    go : (r : Result Turn TextWhy) → turn_of line ≡ r → ExactFrom ((at + length line) + 1) (join line_end (next ∷ lines)) more
+    go : (r : Result Turn TextWhy) → turn_of line ≡ r → ExactFrom ((at + length line) + 1) (join_with_byte line_end (next ∷ lines)) more
         → ExactFrom at s (line_read at free r more)
     go (Err e) is ih = stops-here at s e
     go (Ok t) is ih = room (ltb 0 free)
       where
         room : (b : Bool) → ExactFrom at s (cond b (turn_before t more) (refused_at at (why.List Full)))
-        room true = line_before at line (join line_end (next ∷ lines)) t more (turn-exact line t is) ih
+        room true = line_before at line (join_with_byte line_end (next ∷ lines)) t more (turn-exact line t is) ih
         room false = stops-here at s (why.List Full)
 
 pub text-exact : (free : ℕ) (text : List ℕ) → Exact text (text_read free text)
-text-exact free text = go (subst (λ (s : List ℕ). ExactFrom 0 s (text_read free text)) (join-split line_end text) (lines-exact 0 free (split line_end text)))
+text-exact free text = go (subst (λ (s : List ℕ). ExactFrom 0 s (text_read free text)) (join_with_byte-slice_split line_end text) (lines-exact 0 free (text_lines text)))
   where
     go : ExactFrom 0 text (text_read free text) → Exact text (text_read free text)
     go exact = by (text_read free text).answer exact.ends

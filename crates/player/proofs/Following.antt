@@ -1,6 +1,8 @@
 -- What follows a part of a line.
-use Rattle.std.proofs.Common.{◌≡◌, ℕ, suc, ◌+◌, ◌<◌, Bool, true, false, cond, ◌||◌, eqb, List, [], ◌∷◌, take, Some, None, Ok, Err, Option, Result, sym, refl, ap, ◌∙◌, subst, arith, MatchResult}
+use Rattle.std.proofs.Common.{◌≡◌, ℕ, suc, ◌+◌, ◌<◌, Bool, true, false, cond, not, ◌||◌, eqb, List, [], ◌∷◌, take, Some, None, Ok, Err, Option, Result, sym, refl, ap, ◌∙◌, subst, arith, MatchResult}
+use Rattle.std.specs.List.{slice_split, onto_first, before_first}
 use Rattle.std.specs.Option.{option_map}
+use Rattle.std.proofs.lemmas.List.Sums.{take_while-cons}
 use Rattle.player.specs.declared.fault.TextWhy.{TextWhy}
 use Rattle.player.specs.declared.fault.TextWhy.TheVariants.{Field}
 use Rattle.player.specs.declared.token.Placed.{Placed}
@@ -9,37 +11,54 @@ use Rattle.player.specs.declared.token.Token.TheVariants.{Verb, Number, LineEnd}
 use Rattle.player.specs.declared.verb.Verb.{Verb as TurnVerb}
 use Rattle.player.specs.declared.verb.Verb.TheVariants as verb
 use Rattle.player.specs.Fields.{field_of}
-use Rattle.player.specs.Left.{before, after, further, parts_left, FieldTaken, NoField, NoTurn, end_answer}
+use Rattle.player.specs.Left.{first_line, after, further, parts_left, FieldTaken, NoField, NoTurn, end_answer}
 use Rattle.player.specs.Lines.{fields_of, field_before, turn_of_fields}
-use Rattle.player.specs.Splits.{line_end, space, split, begun}
+use Rattle.player.specs.Splits.{line_end, space, line_parts}
 use Rattle.player.specs.Tokens.{Word, word_seen, words_seen, number, end, PlacedWord, part_length, part, after_part, next_token, after_next}
 use Rattle.player.specs.Verbs.{field_count}
 
-pub split-first : (sep : ℕ) (s : List ℕ) → split sep s ≡ before sep s ∷ further sep (after sep s)
-split-first sep [] = refl
-split-first sep (b ∷ bs) = go (eqb b sep) (split-first sep bs)
+-- what stands before the first sep, after one byte more
+pub before_sep-cons : (sep b : ℕ) (bs : List ℕ) → before_first (λ c. eqb c sep) (b ∷ bs) ≡ cond (eqb b sep) [] (b ∷ before_first (λ c. eqb c sep) bs)
+before_sep-cons sep b bs = take_while-cons (λ c. not (eqb c sep)) b bs ∙ go (eqb b sep)
   where
-    go : (t : Bool) → split sep bs ≡ before sep bs ∷ further sep (after sep bs)
-        → cond t ([] ∷ split sep bs) (begun b (split sep bs)) ≡ cond t [] (b ∷ before sep bs) ∷ further sep (cond t (Some bs) (after sep bs))
+    go : (t : Bool) → cond (not t) (b ∷ before_first (λ c. eqb c sep) bs) [] ≡ cond t [] (b ∷ before_first (λ c. eqb c sep) bs)
+    go true = refl
+    go false = refl
+
+pub split-first : (sep : ℕ) (s : List ℕ) → slice_split (λ b. eqb b sep) s ≡ before_first (λ b. eqb b sep) s ∷ further sep (after sep s)
+split-first sep [] = refl
+split-first sep (b ∷ bs) = go (eqb b sep) (split-first sep bs) ∙ ap (λ (l : List ℕ). l ∷ further sep (after sep (b ∷ bs))) (sym (before_sep-cons sep b bs))
+  where
+    front : List ℕ
+    front = before_first (λ c. eqb c sep) bs
+
+    parts : List (List ℕ)
+    parts = slice_split (λ c. eqb c sep) bs
+
+    go : (t : Bool) → parts ≡ front ∷ further sep (after sep bs)
+        → cond t ([] ∷ parts) (onto_first b parts) ≡ cond t [] (b ∷ front) ∷ further sep (cond t (Some bs) (after sep bs))
     go true ih = refl
-    go false ih = ap (begun b) ih
+    go false ih = ap (onto_first b) ih
 
 -- a part is what comes before the first space of what comes before the first line end
-pub part-is : (s : List ℕ) → before space (before line_end s) ≡ part s
+pub part-is : (s : List ℕ) → before_first (λ b. eqb b space) (first_line s) ≡ part s
 part-is [] = refl
-part-is (b ∷ bs) = go (eqb b line_end) (part-is bs)
+part-is (b ∷ bs) = ap front (before_sep-cons line_end b bs) ∙ go (eqb b line_end) (part-is bs)
   where
     stops : (f : Bool) → [] ≡ take (cond (f || true) 0 (suc (part_length bs))) (b ∷ bs)
     stops true = refl
     stops false = refl
 
-    goes_on : (f : Bool) → before space (before line_end bs) ≡ part bs → cond f [] (b ∷ before space (before line_end bs)) ≡ take (cond (f || false) 0 (suc (part_length bs))) (b ∷ bs)
+    front : List ℕ → List ℕ
+    front = before_first (λ c. eqb c space)
+
+    goes_on : (f : Bool) → front (first_line bs) ≡ part bs → cond f [] (b ∷ front (first_line bs)) ≡ take (cond (f || false) 0 (suc (part_length bs))) (b ∷ bs)
     goes_on true ih = refl
     goes_on false ih = ap (λ (l : List ℕ). b ∷ l) ih
 
-    go : (e : Bool) → before space (before line_end bs) ≡ part bs → before space (cond e [] (b ∷ before line_end bs)) ≡ take (cond (eqb b space || e) 0 (suc (part_length bs))) (b ∷ bs)
+    go : (e : Bool) → front (first_line bs) ≡ part bs → front (cond e [] (b ∷ first_line bs)) ≡ take (cond (eqb b space || e) 0 (suc (part_length bs))) (b ∷ bs)
     go true ih = stops (eqb b space)
-    go false ih = goes_on (eqb b space) ih
+    go false ih = before_sep-cons space b (first_line bs) ∙ goes_on (eqb b space) ih
 
 -- the bytes of a part do not change which parts come after it, nor what comes after the line
 pub after-part : (s : List ℕ) → (parts_left (after_part s) ≡ parts_left s) × (after line_end (after_part s) ≡ after line_end s) × (part_length (after_part s) ≡ 0)
@@ -51,7 +70,10 @@ after-part (b ∷ bs) = go (eqb b line_end) (eqb b space) refl refl (after-part 
     go true true is-e is_f ih = rw (is-e, is_f) (rw (is-e, is_f) (refl, refl, refl))
     go true false is-e is_f ih = rw (is-e, is_f) (rw (is-e, is_f) (refl, refl, refl))
     go false true is-e is_f ih = rw (is-e, is_f) (rw (is-e, is_f) (refl, refl, refl))
-    go false false is-e is_f ih = rw (is-e, is_f) ih
+    go false false is-e is_f ih =
+        let here : after_part (b ∷ bs) ≡ after_part bs = rw (is-e, is_f) refl in
+        let parts : parts_left (b ∷ bs) ≡ parts_left bs = ap (λ (l : List ℕ). further space (after space l)) (before_sep-cons line_end b bs) ∙ rw (is-e, is_f) refl in
+        (ap parts_left here ∙ (ih.0 ∙ sym parts), rw (is-e, is_f) ih.1, rw (is-e, is_f) ih.2)
 
 -- between parts there is a space, a line end or nothing more
 between-space : (b : ℕ) (bs : List ℕ) → part_length (b ∷ bs) ≡ 0 → eqb b line_end ≡ false → eqb b space ≡ true
@@ -65,8 +87,9 @@ between-space b bs none not_end = go (eqb b space) (eqb b line_end) not_end none
 -- the parts after a space
 parts-after-space : (b : ℕ) (bs : List ℕ) → eqb b line_end ≡ false → eqb b space ≡ true → parts_left (b ∷ bs) ≡ part bs ∷ parts_left bs
 parts-after-space b bs not_end is-space =
-    let first : parts_left (b ∷ bs) ≡ split space (before line_end bs) = rw (not_end, is-space) refl in
-    first ∙ (split-first space (before line_end bs) ∙ ap (λ (l : List ℕ). l ∷ further space (after space (before line_end bs))) (part-is bs))
+    let first : parts_left (b ∷ bs) ≡ line_parts (first_line bs) =
+    ap (λ (l : List ℕ). further space (after space l)) (before_sep-cons line_end b bs) ∙ rw (not_end, is-space) refl in
+    first ∙ (split-first space (first_line bs) ∙ ap (λ (l : List ℕ). l ∷ further space (after space (first_line bs))) (part-is bs))
 
 -- a number that was taken is the next part
 abbrev pub word_in : Option PlacedWord → Word

@@ -1,6 +1,6 @@
 -- What is written is read back.
 use Rattle.std.proofs.Common.{◌≡◌, ℕ, ◌+◌, ◌-◌, ◌^◌, ◌<◌, ◌≤◌, Bool, true, false, cond, not, ◌&&◌, eqb, ltb, leb, List, [], ◌∷◌, ◌++◌, map, length, get_or, Some, None, Ok, Err, decimal, Option, Result, refl, ap, ◌∙◌, ⊎_elim, arith}
-use Rattle.std.specs.List.{flat_map, AllByRecursion}
+use Rattle.std.specs.List.{flat_map, AllByRecursion, slice_split, onto_first}
 use Rattle.std.specs.Str.Parse.{digits_value}
 use Rattle.std.specs.Char.{is_ascii_digit}
 use Rattle.std.specs.Str.{all_ascii_digits}
@@ -17,7 +17,7 @@ use Rattle.player.specs.declared.verb.Verb.TheVariants as verb
 use Rattle.player.specs.Fields.{plain_decimal, small, field_of}
 use Rattle.player.specs.Lines.{field_before, fields_of, turn_of_fields, turn_of_verb, turn_of_parts, turn_of}
 use Rattle.player.specs.Left.{after}
-use Rattle.player.specs.Splits.{line_end, space, split, begun}
+use Rattle.player.specs.Splits.{line_end, space, text_lines, line_parts}
 use Rattle.player.specs.Text.{whole_read, turn_before, line_read, lines_read, text_read}
 use Rattle.player.specs.Verbs.{verb_text, verb_named, field_count, turn_with}
 use Rattle.player.specs.Writing.{fields_in, text_of, Small}
@@ -52,17 +52,21 @@ no-separator-first sep b bs none = go (eqb b sep) none
     go true q = let z : ◌≡◌ {A = ℕ} 0 1 = cc in absurd (omega arith)
     go false q = (refl, q)
 
-split-whole : (sep : ℕ) (s : List ℕ) → after sep s ≡ None → split sep s ≡ s ∷ []
+-- bytes taken apart at each sep
+abbrev apart : ℕ → List ℕ → List (List ℕ)
+apart sep s = slice_split (λ b. eqb b sep) s
+
+split-whole : (sep : ℕ) (s : List ℕ) → after sep s ≡ None → apart sep s ≡ s ∷ []
 split-whole sep [] none = refl
 split-whole sep (b ∷ bs) none =
     let here = no-separator-first sep b bs none in
-    cond-false (eqb b sep) ([] ∷ split sep bs) (begun b (split sep bs)) here.0 ∙ ap (begun b) (split-whole sep bs here.1)
+    cond-false (eqb b sep) ([] ∷ apart sep bs) (onto_first b (apart sep bs)) here.0 ∙ ap (onto_first b) (split-whole sep bs here.1)
 
-split_at : (sep : ℕ) (s t : List ℕ) → after sep s ≡ None → split sep (s ++ sep ∷ t) ≡ s ∷ split sep t
-split_at sep [] t none = cond-true (eqb sep sep) ([] ∷ split sep t) (begun sep (split sep t)) (eq-eqb sep sep refl)
+split_at : (sep : ℕ) (s t : List ℕ) → after sep s ≡ None → apart sep (s ++ sep ∷ t) ≡ s ∷ apart sep t
+split_at sep [] t none = cond-true (eqb sep sep) ([] ∷ apart sep t) (onto_first sep (apart sep t)) (eq-eqb sep sep refl)
 split_at sep (b ∷ bs) t none =
     let here = no-separator-first sep b bs none in
-    cond-false (eqb b sep) ([] ∷ split sep (bs ++ sep ∷ t)) (begun b (split sep (bs ++ sep ∷ t))) here.0 ∙ ap (begun b) (split_at sep bs t here.1)
+    cond-false (eqb b sep) ([] ∷ apart sep (bs ++ sep ∷ t)) (onto_first b (apart sep (bs ++ sep ∷ t))) here.0 ∙ ap (onto_first b) (split_at sep bs t here.1)
 
 after-append : (sep : ℕ) (s t : List ℕ) → after sep s ≡ None → after sep t ≡ None → after sep (s ++ t) ≡ None
 after-append sep [] t none more = more
@@ -108,8 +112,8 @@ fields_back (f ∷ fs) fit =
     ∙ ap (field_before (Ok f)) (fields_back fs fit.1)
 
 -- a word and fields, written and taken apart
-split-fields : (word : List ℕ) (fs : List ℕ) → after space word ≡ None → AllByRecursion (λ n. n < 2 ^ 32) fs → split space (word ++ flat_map field_text fs) ≡ word ∷ map decimal fs
-split-fields word [] none fit = ap (split space) (append-nil word) ∙ split-whole space word none
+split-fields : (word : List ℕ) (fs : List ℕ) → after space word ≡ None → AllByRecursion (λ n. n < 2 ^ 32) fs → line_parts (word ++ flat_map field_text fs) ≡ word ∷ map decimal fs
+split-fields word [] none fit = ap line_parts (append-nil word) ∙ split-whole space word none
 split-fields word (f ∷ fs) none fit =
     split_at space word (decimal f ++ flat_map field_text fs) none
     ∙ ap (λ (ps : List (List ℕ)). word ∷ ps) (split-fields (decimal f) fs (digits-no-separator space (decimal f) (omega arith) (all_digits-decimal f fit.0)) fit.1)
@@ -150,17 +154,17 @@ turn-back t fit =
 no-end-turn : (t : Turn) → Small t → after line_end (turn_text t) ≡ None
 no-end-turn t fit = ap (after line_end) (by-fields t) ∙ after-append line_end (verb_text (verb_of t)) (flat_map field_text (fields_in t)) (verb-plain (verb_of t)).1 (no-end-fields (fields_in t) fit)
 
-lines-back : (at free : ℕ) (ts : List Turn) → AllByRecursion Small ts → length ts ≤ free → lines_read at free (split line_end (text_of ts)) ≡ whole_read ts
+lines-back : (at free : ℕ) (ts : List Turn) → AllByRecursion Small ts → length ts ≤ free → lines_read at free (text_lines (text_of ts)) ≡ whole_read ts
 lines-back at free [] fit room = refl
 lines-back at free (t ∷ ts) fit room =
     let line = turn_text t in
     let rest = text_of ts in
-    let apart : split line_end (text_of (t ∷ ts)) ≡ line ∷ split line_end rest =
-    ap (split line_end) (append_assoc line (line_end ∷ []) rest) ∙ split_at line_end line rest (no-end-turn t fit.0) in
+    let taken_apart : text_lines (text_of (t ∷ ts)) ≡ line ∷ text_lines rest =
+    ap text_lines (append_assoc line (line_end ∷ []) rest) ∙ split_at line_end line rest (no-end-turn t fit.0) in
     let next = (at + length line) + 1 in
-    ap (lines_read at free) apart
+    ap (lines_read at free) taken_apart
     ∙ (lines_cons at free line rest
-    ∙ (ap (λ (r : Result Turn TextWhy). line_read at free r (lines_read next (free - 1) (split line_end rest))) (turn-back t fit.0)
+    ∙ (ap (λ (r : Result Turn TextWhy). line_read at free r (lines_read next (free - 1) (text_lines rest))) (turn-back t fit.0)
     ∙ (cond-true (ltb 0 free) _ _ (lt-ltb 0 free (omega arith))
     ∙ ap (turn_before t) (lines-back next (free - 1) ts fit.1 (omega arith)))))
 

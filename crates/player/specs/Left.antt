@@ -1,20 +1,20 @@
 -- What is left of a line from a place in it, and what is done with it.
 use Rattle.std.specs.Prelude.{◌≡◌, ℕ, suc, cond, List, [], ◌∷◌, length, Some, None, Ok, Err, Option, Result, ◌==◌, slice_set}
+use Rattle.std.specs.List.{slice_split, before_first}
 use Rattle.versions.specs.declared.turn.Turn.{Turn}
 use Rattle.player.specs.declared.fault.ListFault.TheVariants.{Full}
 use Rattle.player.specs.declared.fault.TextWhy.{TextWhy}
 use Rattle.player.specs.declared.fault.TextWhy.TheVariants as why
 use Rattle.player.specs.declared.verb.Verb.{Verb}
-use Rattle.player.specs.Splits.{split, space, line_end}
+use Rattle.player.specs.Splits.{space, line_end}
 use Rattle.player.specs.Fields.{field_of}
 use Rattle.player.specs.Lines.{fields_of, turn_of_verb, unfinished}
 use Rattle.player.specs.Lists.{is_full, pushed}
 use Rattle.player.specs.Tokens.{Word, verb_seen, part_length}
 
--- the bytes before the first separator, or all where there is none
-abbrev pub before : ℕ → List ℕ → List ℕ
-before sep [] = []
-before sep (b ∷ bs) = cond (b == sep) [] (b ∷ before sep bs)
+-- a text's first line: the bytes before the first line end, or all where there is none
+abbrev pub first_line : List ℕ → List ℕ
+first_line text = before_first (λ b. b == line_end) text
 
 -- the bytes after the first separator, if there is one
 abbrev pub after : ℕ → List ℕ → Option (List ℕ)
@@ -24,11 +24,11 @@ after sep (b ∷ bs) = cond (b == sep) (Some bs) (after sep bs)
 -- the pieces that follow the first
 abbrev pub further : ℕ → Option (List ℕ) → List (List ℕ)
 further sep None = []
-further sep (Some bs) = split sep bs
+further sep (Some bs) = slice_split (λ b. b == sep) bs
 
 -- the parts of the line after the next space
 abbrev pub parts_left : List ℕ → List (List ℕ)
-parts_left text = further space (after space (before line_end text))
+parts_left text = further space (after space (first_line text))
 
 -- the answer to a line with this turn, where this comes after its end, if it has one
 abbrev pub line_answer : Option (List ℕ) → Result Turn TextWhy → Result Turn TextWhy

@@ -5,7 +5,7 @@ use Rattle.player.specs.declared.fault.TextWhy.{TextWhy}
 use Rattle.player.specs.declared.fault.TextWhy.TheVariants as why
 use Rattle.player.specs.declared.verb.Verb.{Verb}
 use Rattle.player.specs.Fields.{field_of}
-use Rattle.player.specs.Splits.{split, space}
+use Rattle.player.specs.Splits.{line_parts}
 use Rattle.player.specs.Verbs.{verb_named, field_count, turn_with}
 
 -- a field before others: the first that is refused decides
@@ -36,7 +36,7 @@ turn_of_parts (word ∷ parts) = turn_of_verb (verb_named word) parts
 
 -- the turn of a line, given by its bytes before the line end
 abbrev pub turn_of : List ℕ → Result Turn TextWhy
-turn_of line = turn_of_parts (split space line)
+turn_of line = turn_of_parts (line_parts line)
 
 -- a line without its end is refused, if for nothing before then for that
 abbrev pub unfinished : Result Turn TextWhy → TextWhy

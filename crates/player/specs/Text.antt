@@ -6,7 +6,7 @@ use Rattle.player.specs.declared.fault.TextWhy.{TextWhy}
 use Rattle.player.specs.declared.fault.TextWhy.TheVariants as why
 use Rattle.player.specs.Faults.{TextFault}
 use Rattle.player.specs.Lines.{turn_of, unfinished}
-use Rattle.player.specs.Splits.{split, line_end}
+use Rattle.player.specs.Splits.{text_lines}
 
 pub record Reading : Type 0 where
   pub turns : List Turn
@@ -43,7 +43,7 @@ lines_read at free (line ∷ next ∷ lines) = line_read at free (turn_of line) 
 
 -- a text, where the list has room for so many turns
 abbrev pub text_read : ℕ → List ℕ → Reading
-text_read free text = lines_read 0 free (split line_end text)
+text_read free text = lines_read 0 free (text_lines text)
 
 -- elements written into a row, one after another from a place on
 abbrev pub written : {T : Type 0} → List T → ℕ → List T → List T

@@ -38,11 +38,11 @@ abbrev pub text_left : Tokens → List ℕ
 text_left t = t.rest.now
 
 -- where that begins and ends in the text
-abbrev pub place_of : Tokens → ℕ
-place_of t = t.at
+abbrev pub read_place : Tokens → ℕ
+read_place t = t.at
 
 abbrev pub end_of : Tokens → ℕ
-end_of t = place_of t + length (text_left t)
+end_of t = read_place t + length (text_left t)
 
 -- how many bytes come before the first space or line end
 abbrev pub part_length : List ℕ → ℕ

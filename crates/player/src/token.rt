@@ -42,18 +42,18 @@ pub struct Tokens<'a> {
 }
 
 impl<'a> Tokens<'a> {
-    ghost use Rattle.player.specs.Tokens.{text_left, place_of, end_of, words_seen, part_length, part, after_part, verb_token, next_token, after_next};
+    ghost use Rattle.player.specs.Tokens.{text_left, read_place, end_of, words_seen, part_length, part, after_part, verb_token, next_token, after_next};
 
     pub fn new(text: &'a [u8]) -> Tokens<'a>
         ensures text { text_left result ≡ text.now }
-        ensures place { place_of result ≡ 0 }
+        ensures place { read_place result ≡ 0 }
     {
         Tokens { rest: text, at: 0 }
     }
 
     // Takes the verb of the next line, which may be empty, or gives none at the end of the text.
     pub fn verb(&mut self) -> Option<Placed<'a>>
-        ensures token { words_seen result ≡ verb_token (place_of self.old) (text_left self.old) }
+        ensures token { words_seen result ≡ verb_token (read_place self.old) (text_left self.old) }
         ensures text { text_left self.new ≡ after_part (text_left self.old) }
         ensures place { end_of self.new ≡ end_of self.old }
     {
@@ -67,7 +67,7 @@ impl<'a> Tokens<'a> {
 
     // Takes the token after a verb or a number, or gives none at the end of the text.
     pub fn next_token(&mut self) -> Option<Placed<'a>>
-        ensures token { words_seen result ≡ next_token (place_of self.old) (text_left self.old) }
+        ensures token { words_seen result ≡ next_token (read_place self.old) (text_left self.old) }
         ensures text { text_left self.new ≡ after_next (text_left self.old) }
         ensures place { end_of self.new ≡ end_of self.old }
     {

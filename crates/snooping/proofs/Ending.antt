@@ -2,7 +2,7 @@
 -- the head replaces an address.
 use Rattle.std.proofs.Common.{◌≡◌, ℕ, zero, suc, ◌%◌, ◌<◌, ◌≤◌, Bool, true, false, cond, ◌&&◌, eqb, ◌⊎◌, List, ◌∷◌, ◌++◌, map, length, get_or, take, drop, set, is_some, Some, None, Option, unwrap_or, sym, refl, ap, ◌∙◌, inl, inr, ⊎_elim, arith}
 use mathlib.Core.Path.{fun_ext}
-use Rattle.std.specs.Option.{option_map, option_or}
+use Rattle.std.specs.Option.{option_or}
 use Rattle.std.proofs.lemmas.List.{drop-append-le, take-take, take-append-drop, get_or-set_same, get_or-set_other}
 use Rattle.std.proofs.lemmas.Bool.{eqb-true, eqb-false, eq-eqb, ne_eqb, cases_eq, cond-true, cond-false, true≢false, and_right, and_from}
 use Rattle.versions.specs.declared.version.Version.{Version}
@@ -17,7 +17,7 @@ use Rattle.snooping.specs.Lines.{blank, version_in, version_at, pointer_to, unli
 use Rattle.versions.proofs.Classes.{unheld-none}
 use Rattle.versions.proofs.Fits.{without_all-value, front_out, none-join, none-drop}
 use Rattle.versions.proofs.Holding.{get_or-laid_over_all}
-use Rattle.versions.proofs.Ordering.{none-some}
+use Rattle.versions.proofs.Ordering.{none-some, place-later}
 use Rattle.versions.proofs.Tabling.{placed}
 use Rattle.snooping.proofs.Holders.{holder-same, holder-append, holder-found, same-column, take-place, place-value}
 use Rattle.snooping.proofs.Keeping.{Laid, shows}
@@ -144,7 +144,7 @@ module _ (ws : List ℕ) (p : ℕ) (rest : List ℕ) (ls : LineTable) (x : Laid 
   later-is q k e s = none-some k (sym e ∙ (ap (place_in rest) s ∙ apart.1))
 
   later-at : (q k : ℕ) → place_in rest q ≡ Some k → place_in (p ∷ rest) q ≡ Some (suc k)
-  later-at q k e = cond-false (eqb p q) (Some 0) (option_map suc (place_in rest q)) (ne_eqb p q (λ s. later-is q k e (sym s))) ∙ ap (option_map suc) e
+  later-at q k e = place-later p rest q k (ne_eqb p q (λ s. later-is q k e (sym s))) e
 
   not-head : (i : ℕ) (r j : ℕ) → place_in (drop i rest) r ≡ Some j → r ≡ p → ⊥
   not-head i r j e = let f = found_from (place_in rest r) (drop-in i rest r (ap is_some e)) in later-is r f.0 f.1

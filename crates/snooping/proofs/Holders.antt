@@ -1,23 +1,24 @@
 -- The first of some processors that holds an address, and columns of versions that agree.
 use Rattle.std.proofs.Common.{◌≡◌, ℕ, zero, suc, ◌-◌, ◌<◌, Bool, true, false, cond, eqb, List, [], ◌∷◌, ◌++◌, map, length, get_or, take, is_some, Some, None, Option, unwrap_or, sym, refl, ap, ◌∙◌, subst, arith}
 use Rattle.std.specs.Option.{option_map, option_or}
-use Rattle.std.proofs.lemmas.Bool.{eqb-true, eq-eqb, cond-true, cond-false, true≢false}
+use Rattle.std.proofs.lemmas.Bool.{eqb-true, eq-eqb, true≢false}
 use Rattle.versions.specs.declared.version.Version.{Version}
 use Rattle.versions.specs.Orders.{place_in}
 use Rattle.versions.specs.Tables.{Table}
 use Rattle.versions.specs.Versions.{is_held, is_own, laid_over, seen_by, squashed_by}
+use Rattle.versions.proofs.Ordering.{place_in-cons, place-first, place-later}
 use Rattle.snooping.specs.Grid.{holder}
 
 -- the first in line is at place 0, and the others one place further than in the rest
 pub first-place : (q : ℕ) (qs : List ℕ) → place_in (q ∷ qs) q ≡ Some 0
-first-place q qs = cond-true (eqb q q) (Some 0) (option_map suc (place_in qs q)) (eq-eqb q q refl)
+first-place q qs = place-first q qs q (eq-eqb q q refl)
 
 pub later-place : (q : ℕ) (qs : List ℕ) (r j : ℕ) → place_in qs r ≡ Some j → (k : ℕ) × (place_in (q ∷ qs) r ≡ Some k)
 later-place q qs r j e = go (eqb q r) refl
   where
     go : (t : Bool) → eqb q r ≡ t → (k : ℕ) × (place_in (q ∷ qs) r ≡ Some k)
-    go true s = (0, cond-true (eqb q r) (Some 0) (option_map suc (place_in qs r)) s)
-    go false s = (suc j, cond-false (eqb q r) (Some 0) (option_map suc (place_in qs r)) s ∙ ap (option_map suc) e)
+    go true s = (0, place-first q qs r s)
+    go false s = (suc j, place-later q qs r j s e)
 
 pub same-column : (f g : ℕ → Version) (qs : List ℕ) → ((r j : ℕ) → place_in qs r ≡ Some j → f r ≡ g r) → map f qs ≡ map g qs
 same-column f g [] agree = refl
@@ -54,11 +55,12 @@ holder-found t b (q ∷ qs) r e = go (is_held (t q b)) refl e (λ f. holder-foun
     go true h f again =
         let same : q ≡ r = cc in
         (subst (λ (x : ℕ). is_some (place_in (q ∷ qs) x) ≡ true) same (ap is_some (first-place q qs)), ap (λ (x : ℕ). is_held (t x b)) (sym same) ∙ h)
-    go false h f again = (more (eqb q r) (place_in qs r) (again f).0, (again f).1)
+    go false h f again = (ap is_some (place_in-cons q qs r) ∙ more (eqb q r) (place_in qs r) (again f).0, (again f).1)
 
 pub holder-none : (t : Table) (b : ℕ) (qs : List ℕ) → holder t b qs ≡ None → (r j : ℕ) → place_in qs r ≡ Some j → is_held (t r b) ≡ false
 holder-none t b [] e r j p = let z : ◌≡◌ {A = ℕ} 0 1 = cc in absurd (omega arith)
-holder-none t b (q ∷ qs) e r j p = go (is_held (t q b)) refl e (eqb q r) refl p (place_in qs r) refl (λ f i m. holder-none t b qs f r i m)
+holder-none t b (q ∷ qs) e r j p =
+    go (is_held (t q b)) refl e (eqb q r) refl (sym (place_in-cons q qs r) ∙ p) (place_in qs r) refl (λ f i m. holder-none t b qs f r i m)
   where
     go : (u : Bool) → is_held (t q b) ≡ u → cond u (Some q) (holder t b qs) ≡ None → (w : Bool) → eqb q r ≡ w → cond w (Some 0) (option_map suc (place_in qs r)) ≡ Some j
         → (o : Option ℕ) → place_in qs r ≡ o → (holder t b qs ≡ None → (i : ℕ) → place_in qs r ≡ Some i → is_held (t r b) ≡ false) → is_held (t r b) ≡ false
@@ -71,7 +73,9 @@ holder-none t b (q ∷ qs) e r j p = go (is_held (t q b)) refl e (eqb q r) refl 
 pub take-place : (m : ℕ) (ps : List ℕ) (q k : ℕ) → place_in (take m ps) q ≡ Some k → (place_in ps q ≡ Some k) × (k < m)
 take-place zero ps q k e = let z : ◌≡◌ {A = ℕ} 0 1 = cc in absurd (omega arith)
 take-place (suc m) [] q k e = let z : ◌≡◌ {A = ℕ} 0 1 = cc in absurd (omega arith)
-take-place (suc m) (p ∷ ps) q k e = go (eqb p q) refl e (place_in (take m ps) q) refl (λ j i. take-place m ps q j i)
+take-place (suc m) (p ∷ ps) q k e =
+    let x = go (eqb p q) refl (sym (place_in-cons p (take m ps) q) ∙ e) (place_in (take m ps) q) refl (λ j i. take-place m ps q j i) in
+    (place_in-cons p ps q ∙ x.0, x.1)
   where
     go : (t : Bool) → eqb p q ≡ t → cond t (Some 0) (option_map suc (place_in (take m ps) q)) ≡ Some k → (o : Option ℕ) → place_in (take m ps) q ≡ o
         → ((j : ℕ) → place_in (take m ps) q ≡ Some j → (place_in ps q ≡ Some j) × (j < m)) → (cond t (Some 0) (option_map suc (place_in ps q)) ≡ Some k) × (k < suc m)
@@ -114,7 +118,7 @@ hidden-copy (x ∷ vs) j d h m w v = go j x.mark refl h m x.own refl (λ i l n a
 
 pub place-value : (ps : List ℕ) (q k : ℕ) → place_in ps q ≡ Some k → get_or ps k 0 ≡ q
 place-value [] q k e = let z : ◌≡◌ {A = ℕ} 0 1 = cc in absurd (omega arith)
-place-value (p ∷ ps) q k e = go (eqb p q) refl e (place_in ps q) refl (λ j i. place-value ps q j i)
+place-value (p ∷ ps) q k e = go (eqb p q) refl (sym (place_in-cons p ps q) ∙ e) (place_in ps q) refl (λ j i. place-value ps q j i)
   where
     go : (t : Bool) → eqb p q ≡ t → cond t (Some 0) (option_map suc (place_in ps q)) ≡ Some k → (o : Option ℕ) → place_in ps q ≡ o → ((j : ℕ) → place_in ps q ≡ Some j → get_or ps j 0 ≡ q) → get_or (p ∷ ps) k 0 ≡ q
     go true s e o i again = let zero_is : 0 ≡ k = cc in ap (λ (j : ℕ). get_or (p ∷ ps) j 0) (sym zero_is) ∙ eqb-true p q s

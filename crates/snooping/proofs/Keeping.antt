@@ -12,7 +12,7 @@ use Rattle.snooping.specs.declared.line.Line.{Line}
 use Rattle.snooping.specs.Grid.{LineTable, Linked, Pointing, table_by, with_line, holder}
 use Rattle.snooping.specs.Lines.{blank, version_in, version_at, with_next}
 use Rattle.versions.proofs.Classes.{unheld-none}
-use Rattle.versions.proofs.Ordering.{none-some}
+use Rattle.versions.proofs.Ordering.{none-some, place_in-cons}
 use Rattle.versions.proofs.Tabling.{placed}
 use Rattle.snooping.proofs.Holders.{holder-same, holder-found, holder-append, same-column, take-place, place-once, same_place}
 
@@ -70,12 +70,16 @@ module _ (ws ps : List ℕ) (ls : LineTable) (x : Laid ws ps ls) (p : ℕ) (idle
   push-place q k e = go ps k e
     where
       go : (l : List ℕ) (k : ℕ) → place_in (l ++ p ∷ []) q ≡ Some k → (place_in l q ≡ Some k) ⊎ (p ≡ q)
-      go [] k e = last (eqb p q) refl e
+      go [] k e = last (eqb p q) refl (sym (place_in-cons p [] q) ∙ e)
         where
           last : (t : Bool) → eqb p q ≡ t → cond t (Some 0) None ≡ Some k → (None ≡ Some k) ⊎ (p ≡ q)
           last true s f = inr (eqb-true p q s)
           last false s f = inl f
-      go (r ∷ l) k e = here (eqb r q) e (place_in (l ++ p ∷ []) q) refl (λ j i. go l j i)
+      go (r ∷ l) k e =
+          ⊎_elim
+          (λ (m : cond (eqb r q) (Some 0) (option_map suc (place_in l q)) ≡ Some k). inl (place_in-cons r l q ∙ m))
+          (λ (m : p ≡ q). inr m)
+          (here (eqb r q) (sym (place_in-cons r (l ++ p ∷ []) q) ∙ e) (place_in (l ++ p ∷ []) q) refl (λ j i. go l j i))
         where
           here : (t : Bool) → cond t (Some 0) (option_map suc (place_in (l ++ p ∷ []) q)) ≡ Some k → (o : Option ℕ) → place_in (l ++ p ∷ []) q ≡ o
               → ((j : ℕ) → place_in (l ++ p ∷ []) q ≡ Some j → (place_in l q ≡ Some j) ⊎ (p ≡ q)) → (cond t (Some 0) (option_map suc (place_in l q)) ≡ Some k) ⊎ (p ≡ q)

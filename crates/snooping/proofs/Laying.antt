@@ -1,6 +1,6 @@
 -- Lines that are as the words, the order and the versions demand are exactly the lines that the plain state determines.
 use Rattle.std.proofs.Common.{◌≡◌, ℕ, zero, suc, ◌%◌, ◌<◌, ◌≤◌, Bool, true, false, cond, ◌&&◌, ◌||◌, eqb, leb, ltb, ◌⊎◌, List, [], ◌∷◌, map, length, get_or, take, drop, is_some, Some, None, Ok, Err, Option, unwrap_or, sym, refl, ap, ◌∙◌, inl, inr, ⊎_elim, arith}
-use Rattle.std.specs.List.{range_with_len, find}
+use Rattle.std.specs.List.{range_with_len, find, after_first}
 use Rattle.std.specs.Option.{option_map}
 use Rattle.std.specs.Result.{result_ok}
 use Rattle.std.proofs.lemmas.List.FromFn.{length-map-range_with_len, get_or-map-range_with_len}
@@ -9,7 +9,7 @@ use Rattle.std.proofs.lemmas.Bool.{leb-false, lt-ltb, and_from, cases_lt, cond-t
 use Rattle.versions.specs.declared.refusal.Refusal.{Refusal}
 use Rattle.versions.specs.declared.refusal.Refusal.TheVariants.{NoProcessor}
 use Rattle.versions.specs.declared.version.Version.{Version}
-use Rattle.versions.specs.Cuts.{up_to, past}
+use Rattle.versions.specs.Cuts.{up_to}
 use Rattle.versions.specs.Orders.{place_in, Apart}
 use Rattle.versions.specs.Plain.{Task, Plain, fresh, is_on, task_on, column}
 use Rattle.versions.specs.Processors.{processor_answer}
@@ -26,7 +26,7 @@ use Rattle.snooping.specs.Snooping.{line_answer}
 use Rattle.snooping.specs.States.{has_l, has_s, with_bits}
 use Rattle.versions.proofs.Classes.{held-some, held_none}
 use Rattle.versions.proofs.Ordering.{place_none, none-some, apart_below}
-use Rattle.versions.proofs.Tabling.{placed, task_on-is, past_is, given-load}
+use Rattle.versions.proofs.Tabling.{placed, task_on-is, after_first_is, given-load}
 use Rattle.snooping.proofs.Grids.{past-blank}
 use Rattle.snooping.proofs.Holders.{seen-append, place-value}
 use Rattle.snooping.proofs.Keeping.{Laid, shows, shown}
@@ -73,15 +73,15 @@ module _ (ws ps : List ℕ) (table : Table) where
           state = with_bits (t.at a).mark (is_own (t.at a));
           tag = a;
           word = seen_by (column a (up_to (is_on q) (map (task_by table) ps))) (get_or ws a 0);
-          next = next_holder a (past (is_on q) (map (task_by table) ps));
+          next = next_holder a (after_first (is_on q) (map (task_by table) ps));
         })
         (task_on-is table ps q k x)
         ∙ (ap
-        (λ (w : ℕ). record { state = with_bits (table q a).mark (is_own (table q a)); tag = a; word = w; next = next_holder a (past (is_on q) (map (task_by table) ps)) })
+        (λ (w : ℕ). record { state = with_bits (table q a).mark (is_own (table q a)); tag = a; word = w; next = next_holder a (after_first (is_on q) (map (task_by table) ps)) })
         (given-load ws ps table q k apart place a)
         ∙ ap
         (λ (o : Option ℕ). record { state = with_bits (table q a).mark (is_own (table q a)); tag = a; word = seen_by (map (λ r. table r a) (take (suc k) ps)) (get_or ws a 0); next = o })
-        (ap (next_holder a) (past_is table ps q k x) ∙ next-is a (drop (suc k) ps)))
+        (ap (next_holder a) (after_first_is table ps q k x) ∙ next-is a (drop (suc k) ps)))
 
     active-line : (c : ℕ) → line_of (plain_of ws ps table) q c ≡ line_for (plain_of ws ps table) q (held_in (table q) c (length ws))
     active-line c = ap (λ (t : Task). line_for (plain_of ws ps table) q (held_in t.at c (length ws))) (task_on-is table ps q k (placed ps q k place))

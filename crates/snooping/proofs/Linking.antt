@@ -6,7 +6,7 @@ use Rattle.std.proofs.lemmas.Bool.{eqb-true, eqb-false, eq-eqb, cond-true, cond-
 use Rattle.versions.specs.Orders.{place_in, Apart}
 use Rattle.versions.specs.Tables.{Table}
 use Rattle.versions.specs.Versions.{is_held}
-use Rattle.versions.proofs.Ordering.{place_none}
+use Rattle.versions.proofs.Ordering.{place_none, place_in-cons}
 use Rattle.snooping.specs.declared.line.Line.{Line}
 use Rattle.snooping.specs.Grid.{LineTable, Tagged, table_by, with_line, holder, linked, relinked}
 use Rattle.snooping.specs.Lines.{version_in, version_at, with_next}
@@ -76,7 +76,8 @@ relinked-unheld (p ∷ ps) a ls q d no_line = go (eqb q p) refl ∙ relinked-unh
 pub relinked-held : (ps : List ℕ) (a : ℕ) (ls : LineTable) (q k : ℕ) → Apart ps → place_in ps q ≡ Some k → is_held (table_by ls q a) ≡ true
     → relinked ps a ls q (a % 16) ≡ with_next (ls q (a % 16)) (holder (table_by ls) a (drop (suc k) ps))
 relinked-held [] a ls q k apart place has-line = let z : ◌≡◌ {A = ℕ} 0 1 = cc in absurd (omega arith)
-relinked-held (p ∷ ps) a ls q k apart place has-line = go (eqb p q) refl place (place_in ps q) refl (λ j i. relinked-held ps a ls q j apart.2 i has-line)
+relinked-held (p ∷ ps) a ls q k apart place has-line =
+    go (eqb p q) refl (sym (place_in-cons p ps q) ∙ place) (place_in ps q) refl (λ j i. relinked-held ps a ls q j apart.2 i has-line)
   where
     now : LineTable
     now = relinked ps a ls

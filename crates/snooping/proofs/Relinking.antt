@@ -2,13 +2,13 @@
 use Rattle.std.proofs.Common.{◌≡◌, ℕ, zero, suc, ◌%◌, ◌<◌, ◌≤◌, Bool, true, false, cond, ◌&&◌, eqb, ◌⊎◌, List, [], ◌∷◌, get_or, drop, Some, None, Option, sym, refl, ap, ◌∙◌, subst, inl, inr, ⊎_elim, arith}
 use mathlib.Core.Path.{fun_ext}
 use Rattle.std.specs.Option.{option_map}
-use Rattle.std.proofs.lemmas.Bool.{eqb-true, eqb-false, eq-eqb, ne_eqb, cases_eq, cond-true, cond-false, true≢false}
+use Rattle.std.proofs.lemmas.Bool.{eqb-true, eqb-false, eq-eqb, ne_eqb, cases_eq, true≢false}
 use Rattle.versions.specs.Orders.{place_in, Apart}
 use Rattle.versions.specs.Sharers.{FirstFrom, holds_at, versions_of}
 use Rattle.versions.specs.Tables.{Table}
 use Rattle.versions.specs.Versions.{is_held}
 use Rattle.versions.proofs.Fits.{none-drop}
-use Rattle.versions.proofs.Ordering.{none-some}
+use Rattle.versions.proofs.Ordering.{none-some, place_in-cons, place-first, place-later}
 use Rattle.snooping.specs.declared.line.Line.{Line}
 use Rattle.snooping.specs.Grid.{LineTable, Linked, table_by, with_line, holder, linked, relinked}
 use Rattle.snooping.specs.Lines.{version_at, with_next}
@@ -26,7 +26,7 @@ holds-at t a (p ∷ ps) (suc i) at = holds-at t a ps i at
 
 -- the first in line, or a later one
 place-split : (x : ℕ) (xs : List ℕ) (p k : ℕ) → place_in (x ∷ xs) p ≡ Some k → ((k ≡ 0) × (x ≡ p)) ⊎ ((j : ℕ) × (k ≡ suc j) × (x ≡ p → ⊥) × (place_in xs p ≡ Some j))
-place-split x xs p k e = go (eqb x p) refl e (place_in xs p) refl
+place-split x xs p k e = go (eqb x p) refl (sym (place_in-cons x xs p) ∙ e) (place_in xs p) refl
   where
     go : (t : Bool) → eqb x p ≡ t → cond t (Some 0) (option_map suc (place_in xs p)) ≡ Some k → (o : Option ℕ) → place_in xs p ≡ o
         → ((k ≡ 0) × (x ≡ p)) ⊎ ((j : ℕ) × (k ≡ suc j) × (x ≡ p → ⊥) × (place_in xs p ≡ Some j))
@@ -36,7 +36,7 @@ place-split x xs p k e = go (eqb x p) refl e (place_in xs p) refl
 
 later-place-is : (x : ℕ) (xs : List ℕ) (q j : ℕ) → place_in xs x ≡ None → place_in xs q ≡ Some j → place_in (x ∷ xs) q ≡ Some (suc j)
 later-place-is x xs q j none e =
-    cond-false (eqb x q) (Some 0) (option_map suc (place_in xs q)) (ne_eqb x q (λ s. none-some j (sym e ∙ (sym (ap (place_in xs) s) ∙ none)))) ∙ ap (option_map suc) e
+    place-later x xs q j (ne_eqb x q (λ s. none-some j (sym e ∙ (sym (ap (place_in xs) s) ∙ none)))) e
 
 pub linked-rest : (x : ℕ) (xs : List ℕ) (a : ℕ) (ls : LineTable) → Apart (x ∷ xs) → Linked (x ∷ xs) a ls → Linked xs a ls
 linked-rest x xs a ls apart is q j place held = is q (suc j) (later-place-is x xs q j apart.1 place) held
@@ -63,7 +63,7 @@ linked-already (p ∷ ps) a ls apart is =
     ap (λ (x : LineTable). linked x p a (holder (table_by ls) a ps)) (linked-already ps a ls apart.2 (linked-rest p ps a ls apart is)) ∙ go (is_held (table_by ls p a)) refl
   where
     first : place_in (p ∷ ps) p ≡ Some 0
-    first = cond-true (eqb p p) (Some 0) (option_map suc (place_in ps p)) (eq-eqb p p refl)
+    first = place-first p ps p (eq-eqb p p refl)
 
     go : (t : Bool) → is_held (table_by ls p a) ≡ t → linked ls p a (holder (table_by ls) a ps) ≡ ls
     go true h = link-again ls p a (holder (table_by ls) a ps) (sym (is p 0 first h))
@@ -196,7 +196,7 @@ module _ (ls : LineTable) (p a : ℕ) (y : Line) (held : is_held (version_at y a
       (place-split x xs p k place)
     where
       first : place_in (x ∷ xs) x ≡ Some 0
-      first = cond-true (eqb x x) (Some 0) (option_map suc (place_in xs x)) (eq-eqb x x refl)
+      first = place-first x xs x (eq-eqb x x refl)
 
       go : (k : ℕ) → (x ≡ p → ⊥) → place_in xs p ≡ Some k → (j : ℕ) → j < suc k → holds (table_by ls) a (x ∷ xs) j ≡ true → ((i : ℕ) → j < i → i < suc k → holds (table_by ls) a (x ∷ xs) i ≡ false)
           → ((h : ℕ) → h < k → holds (table_by ls) a xs h ≡ true → ((i : ℕ) → h < i → i < k → holds (table_by ls) a xs i ≡ false)

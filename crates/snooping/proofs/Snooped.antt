@@ -18,7 +18,7 @@ use Rattle.versions.proofs.Classes.{unheld-none}
 use Rattle.versions.proofs.Fits.{none-join, without_all-value, front_out}
 use Rattle.versions.specs.Taken.{Took}
 use Rattle.versions.proofs.Judging.{Agrees, ok-start, ok-access, ok-commit, ok-replace}
-use Rattle.versions.proofs.Ordering.{apart-push, apart-take, apart-drop, none-some}
+use Rattle.versions.proofs.Ordering.{apart-push, apart-take, apart-drop, none-some, place_in-cons, place-first}
 use Rattle.versions.proofs.Serving.{Served, refused-by, class-free, serve-start, serve-load, serve-store, serve-squash, serve-commit, serve-replace}
 use Rattle.versions.proofs.Tabling.{placed, none-past, place-take, squashes, squashes-le}
 use Rattle.snooping.specs.declared.cache.Cache.{Cache}
@@ -26,13 +26,13 @@ use Rattle.snooping.specs.declared.line.Line.{Line}
 use Rattle.snooping.specs.declared.report.BusReport.{BusReport}
 use Rattle.snooping.specs.declared.state.LineState.{LineState}
 use Rattle.snooping.specs.declared.state.LineState.TheVariants.{Invalid, Loaded, Stored, Both}
-use Rattle.snooping.specs.declared.state.LineEvent.TheVariants.{Commit as CommitLine}
+use Rattle.snooping.specs.declared.state.LineEvent.TheVariants.{Load as LoadLine, Store as StoreLine, Commit as CommitLine}
 use Rattle.snooping.specs.declared.store.SnoopingStore.{SnoopingStore}
 use Rattle.snooping.specs.Caches.{processors_of}
 use Rattle.snooping.specs.Grid.{LineTable, Linked, Pointing, line_in, Wide, table_by, with_line, with_cache, holder, relinked, cut_to}
 use Rattle.versions.specs.Tables.{last_that}
 use Rattle.snooping.specs.Layout.{lines_of}
-use Rattle.snooping.specs.Lines.{blank, version_in, version_at, with_loaded, with_stored, with_next, ended}
+use Rattle.snooping.specs.Lines.{blank, version_in, version_at, with_taken, with_next, ended}
 use Rattle.snooping.specs.Report.{quiet, bus_read, bus_write, written_back, supplied_by, reached, powers, written_last, report_of, report_after}
 use Rattle.snooping.specs.Snooping.{plain_in, SoundSnooping, Shown, supplied_word}
 use Rattle.snooping.specs.States.{has_s}
@@ -124,11 +124,11 @@ last-passes f (r ∷ qs) q e = go (last_that f qs) refl (f r) refl e (λ i. last
     go (Some x) i t s e again =
         let is : Some x ≡ Some q = sym (ap (λ (o : Option ℕ). option_or o (cond (f r) (Some r) None)) i) ∙ e in
         let y = again (i ∙ is) in
-        (y.0, more (eqb r q) (place_in qs q) y.1)
+        (y.0, ap is_some (place_in-cons r qs q) ∙ more (eqb r q) (place_in qs q) y.1)
     go None i true s e again =
         let is : Some r ≡ Some q = sym (ap (λ (o : Option ℕ). option_or o (cond (f r) (Some r) None)) i ∙ ap (λ (t : Bool). cond t (Some r) None) s) ∙ e in
         let same : r ≡ q = cc in
-        (ap f (sym same) ∙ s, subst (λ (x : ℕ). is_some (place_in (r ∷ qs) x) ≡ true) same (ap is_some (cond-true (eqb r r) (Some 0) (option_map suc (place_in qs r)) (eq-eqb r r refl))))
+        (ap f (sym same) ∙ s, subst (λ (x : ℕ). is_some (place_in (r ∷ qs) x) ≡ true) same (ap is_some (place-first r qs r (eq-eqb r r refl))))
     go None i false s e again =
         let is : None ≡ Some q = sym (ap (λ (o : Option ℕ). option_or o (cond (f r) (Some r) None)) i ∙ ap (λ (t : Bool). cond t (Some r) None) s) ∙ e in
         absurd (none-some q (sym is))
@@ -241,7 +241,7 @@ store-hidden ps table p k q j a w apart at_p at-q later stays mark f agree =
         sum i e = omega arith
 
 -- a store sets S and keeps L
-stored-version : (s : LineState) (old a w : ℕ) (n : Option ℕ) → version_in (with_stored (record { state = s; tag = a; word = old; next = n }) a w) ≡ with_store w (version_in (record { state = s; tag = a; word = old; next = n }))
+stored-version : (s : LineState) (old a w : ℕ) (n : Option ℕ) → version_in (with_taken StoreLine (record { state = s; tag = a; word = old; next = n }) a w) ≡ with_store w (version_in (record { state = s; tag = a; word = old; next = n }))
 stored-version Invalid old a w n = refl
 stored-version Loaded old a w n = refl
 stored-version Stored old a w n = refl
@@ -370,17 +370,17 @@ module _ {M : Type 0} (words : M → List ℕ) {sound : M → Type 0} (st : Snoo
 
   pub turn-load-miss : (p a k w : ℕ) (nearest : Option ℕ) (ws' later : List ℕ) (new : List Cache) (now : BusReport) → Ok k ≡ access_place (length ws) ps table p a → is_held (table p a) ≡ false
       → nearest ≡ last_that (λ r. is_own (table r a)) (take k ps) → w ≡ supplied_word ls (a % 16) (get_or ws a 0) nearest → ws' ≡ ws → later ≡ ps
-      → line_in new ≡ relinked ps a (with_line ls p (a % 16) (with_loaded (ls p (a % 16)) a w)) → Wide new → now ≡ bus_read a (supplied_by nearest)
+      → line_in new ≡ relinked ps a (with_line ls p (a % 16) (with_taken LoadLine (ls p (a % 16)) a w)) → Wide new → now ≡ bus_read a (supplied_by nearest)
       → Turned state (Load p a) old (Ok w) ws' later new now
   turn-load-miss p a k w nearest ws' later new now ok none near w-is words order New-is new-wide report =
       let y = ok-access (length ws) ps table p a k ok in
       let free = class-free (length ws) ps table p a fits y.3 in
       let seen : w ≡ seen_by (map (λ r. table r a) (take k ps)) (get_or ws a 0) = w-is ∙ supplied-is k a nearest near in
       let bare : ls p (a % 16) ≡ blank = unheld-line (is_held (version_in (ls p (a % 16)))) refl (own_line p a free) in
-      let line : Line = with_loaded blank a w in
+      let line : Line = with_taken LoadLine blank a w in
       let no-version : table p a ≡ no_version = unheld-none (table p a) none in
       let loaded : with_load (table p a) ≡ version_in line = ap with_load no-version in
-      let one : mid ws ps ls laid apart p k a y.0 line refl refl (own_line p a free) ≡ with_line ls p (a % 16) (with_loaded (ls p (a % 16)) a w) = ap (λ (x : Line). with_line ls p (a % 16) (with_loaded x a w)) (sym bare) in
+      let one : mid ws ps ls laid apart p k a y.0 line refl refl (own_line p a free) ≡ with_line ls p (a % 16) (with_taken LoadLine (ls p (a % 16)) a w) = ap (λ (x : Line). with_line ls p (a % 16) (with_taken LoadLine x a w)) (sym bare) in
       let new-mid : line_in new ≡ relinked ps a (with_line ls p (a % 16) line) = New-is ∙ ap (relinked ps a) (sym one) in
       let mid-is : table_by (with_line ls p (a % 16) line) ≡ with_version table p a (version_in line) = mid-table ws ps ls laid apart p k a y.0 line refl refl (own_line p a free) in
       let table_is : table_by (line_in new) ≡ with_version table p a (with_load (table p a)) =
@@ -405,8 +405,8 @@ module _ {M : Type 0} (words : M → List ℕ) {sound : M → Type 0} (st : Snoo
           absurd (true≢false (sym e ∙ (ap is_held (sym (shows ws ps ls laid p (a % 16) e)) ∙ (ap (λ (b : ℕ). is_held (table p b)) (tag_is e) ∙ none))))
       unheld-line false e tag_is = laid.bare p (a % 16) e
 
-      same-own : (r : ℕ) (t : Bool) → eqb r p ≡ t → table p a ≡ no_version → (cond (t && eqb a a) (version_in (with_loaded blank a w)) (table r a)).own ≡ (table r a).own
-      same-own r true e n = ap (λ (u : Bool). (cond u (version_in (with_loaded blank a w)) (table r a)).own) (eq-eqb a a refl) ∙ sym (ap (λ (q : ℕ). (table q a).own) (eqb-true r p e) ∙ ap (λ (v : Version). v.own) n)
+      same-own : (r : ℕ) (t : Bool) → eqb r p ≡ t → table p a ≡ no_version → (cond (t && eqb a a) (version_in (with_taken LoadLine blank a w)) (table r a)).own ≡ (table r a).own
+      same-own r true e n = ap (λ (u : Bool). (cond u (version_in (with_taken LoadLine blank a w)) (table r a)).own) (eq-eqb a a refl) ∙ sym (ap (λ (q : ℕ). (table q a).own) (eqb-true r p e) ∙ ap (λ (v : Version). v.own) n)
       same-own r false e n = refl
 
   pub turn-squash : (p k n : ℕ) (later : List ℕ) (new : List Cache) (now : BusReport) → Ok k ≡ squash_place ps p → n ≡ length ps - k → later ≡ take k ps → line_in new ≡ cut_to (take k ps) ls → Wide new → now ≡ quiet
@@ -473,13 +473,13 @@ module _ {M : Type 0} (words : M → List ℕ) {sound : M → Type 0} (st : Snoo
       go false e = refl
 
   pub turn-store-hit : (p a w k : ℕ) (later : List ℕ) (new : List Cache) (now : BusReport) → Ok k ≡ access_place (length ws) ps table p a → is_own (table p a) ≡ true → (ls p (a % 16)).next ≡ None
-      → later ≡ ps → line_in new ≡ with_line ls p (a % 16) (with_stored (ls p (a % 16)) a w) → Wide new → now ≡ quiet → Turned state (Store p a w) old (Ok 0) ws later new now
+      → later ≡ ps → line_in new ≡ with_line ls p (a % 16) (with_taken StoreLine (ls p (a % 16)) a w) → Wide new → now ≡ quiet → Turned state (Store p a w) old (Ok 0) ws later new now
   turn-store-hit p a w k later new now ok own last order New-is new-wide report =
       let y = ok-access (length ws) ps table p a k ok in
       let held = own_held (table p a) own in
       let s = shown ls p a held in
       let x = ls p (a % 16) in
-      let line = with_stored x a w in
+      let line = with_taken StoreLine x a w in
       let free = own_line p a (class-free (length ws) ps table p a fits y.3) in
       let version : table p a ≡ version_in x = ap (table p) (sym s.0) ∙ shows ws ps ls laid p (a % 16) s.1 in
       let stored : version_in line ≡ with_store w (table p a) = stored-version x.state x.word a w x.next ∙ ap (with_store w) (sym version) in
@@ -533,7 +533,7 @@ module _ {M : Type 0} (words : M → List ℕ) {sound : M → Type 0} (st : Snoo
   pub turn-store-miss : (p a w k n mask : ℕ) (ls₁ : LineTable) (later : List ℕ) (new : List Cache) (now : BusReport) → Ok k ≡ access_place (length ws) ps table p a
       → (is_own (table p a) && not (is_some (ls p (a % 16)).next)) ≡ false → n ≡ squashes table ps k a → mask ≡ powers (reached (λ q. table q a) (drop (suc k) ps))
       → Laid ws (take (length ps - n) ps) ls₁ → table_by ls₁ ≡ without_all table (drop (length ps - n) ps) → later ≡ take (length ps - n) ps
-      → line_in new ≡ relinked (take (length ps - n) ps) a (with_line ls₁ p (a % 16) (with_stored (ls₁ p (a % 16)) a w)) → Wide new → now ≡ bus_write a mask
+      → line_in new ≡ relinked (take (length ps - n) ps) a (with_line ls₁ p (a % 16) (with_taken StoreLine (ls₁ p (a % 16)) a w)) → Wide new → now ≡ bus_write a mask
       → Turned state (Store p a w) old (Ok n) ws later new now
   turn-store-miss p a w k n mask ls₁ later new now ok test n-is mask_is laid₁ cut order New-is new-wide report =
       let y = ok-access (length ws) ps table p a k ok in
@@ -545,7 +545,7 @@ module _ {M : Type 0} (words : M → List ℕ) {sound : M → Type 0} (st : Snoo
       λ held. let b = (ls₁ p (a % 16)).tag in
       class-free (length ws) ps table p a fits y.3 b (ap is_held (sym (mine b)) ∙ (ap is_held (shows ws (take m ps) ls₁ laid₁ p (a % 16) held) ∙ held)) (laid₁.class p (a % 16) held) in
       let x = ls₁ p (a % 16) in
-      let line = with_stored x a w in
+      let line = with_taken StoreLine x a w in
       let stored : version_in line ≡ with_store w (table_by ls₁ p a) = stored-version x.state x.word a w x.next ∙ ap (with_store w) (sym (own-version (take m ps) ls₁ laid₁ p a free)) in
       let line-held : is_held (version_in line) ≡ true = ap is_held stored ∙ own_held (with_store w (table_by ls₁ p a)) refl in
       let mid-is : table_by (with_line ls₁ p (a % 16) line) ≡ with_version (table_by ls₁) p a (version_in line) =

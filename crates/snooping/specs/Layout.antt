@@ -1,9 +1,9 @@
 -- The lines that a state of the plain store determines. What the four caches hold is this, after every turn.
 use Rattle.std.specs.Prelude.{ℕ, List, map, length, Some, None, Option, slice_index}
-use Rattle.std.specs.List.{range_with_len, find}
+use Rattle.std.specs.List.{range_with_len, find, after_first}
 use Rattle.std.specs.Option.{option_map}
 use Rattle.versions.specs.declared.version.Version.{Version}
-use Rattle.versions.specs.Cuts.{up_to, past}
+use Rattle.versions.specs.Cuts.{up_to}
 use Rattle.versions.specs.Plain.{Task, Plain, is_on, task_on, column}
 use Rattle.versions.specs.Tables.{of_class}
 use Rattle.versions.specs.Versions.{is_own, is_held, seen_by}
@@ -29,7 +29,7 @@ line_for s p (Some a) =
       state = with_bits ((task_on p s.order).at a).mark (is_own ((task_on p s.order).at a));
       tag = a;
       word = seen_by (column a (up_to (is_on p) s.order)) (slice_index s.memory a);
-      next = next_holder a (past (is_on p) s.order);
+      next = next_holder a (after_first (is_on p) s.order);
     }
 
 -- line c of processor p

@@ -4,7 +4,6 @@ use Rattle.snooping.specs.declared.cache.Cache.{Cache}
 use Rattle.snooping.specs.declared.line.Line.{Line}
 use Rattle.snooping.specs.declared.state.LineState.TheVariants.{Invalid}
 use Rattle.snooping.specs.declared.state.LineEvent.{LineEvent}
-use Rattle.snooping.specs.declared.state.LineEvent.TheVariants.{Load, Store}
 use Rattle.snooping.specs.States.{has_l, has_s, next_state}
 use Rattle.versions.specs.declared.version.Version.{Version}
 use Rattle.versions.specs.Orders.{place_in}
@@ -28,15 +27,9 @@ version_in x = record { mark = has_l x.state; own = cond (has_s x.state) (Some x
 abbrev pub version_at : Line → ℕ → Version
 version_at x b = cond (x.tag == b) (version_in x) no_version
 
--- after an access of a with the word w: after a load that gave w, and after a store of w; and with another pointer
+-- after an access of a with the word w, which is a load that gave w or a store of w; and with another pointer
 abbrev pub with_taken : LineEvent → Line → ℕ → ℕ → Line
 with_taken e x a w = record { state = next_state x.state e; tag = a; word = w; next = x.next }
-
-abbrev pub with_loaded : Line → ℕ → ℕ → Line
-with_loaded x a w = with_taken Load x a w
-
-abbrev pub with_stored : Line → ℕ → ℕ → Line
-with_stored x a w = with_taken Store x a w
 
 abbrev pub with_next : Line → Option ℕ → Line
 with_next x n = record { state = x.state; tag = x.tag; word = x.word; next = n }

@@ -1,14 +1,13 @@
 -- What the bus reports of a turn, from the state of the plain store before it.
 use Rattle.std.specs.Prelude.{ℕ, ◌+◌, ◌^◌, cond, not, ◌&&◌, List, [], ◌∷◌, map, length, Some, None, Option}
-use Rattle.std.specs.Option.{option_or}
-use Rattle.std.specs.List.{list_any}
+use Rattle.std.specs.Option.{option_map}
+use Rattle.std.specs.List.{list_any, before_first, after_first}
 use Rattle.versions.specs.declared.refusal.Refusal.{Refusal}
 use Rattle.versions.specs.declared.turn.Turn.{Turn}
 use Rattle.versions.specs.declared.turn.Turn.TheVariants.{Start, Load, Store, Squash, Commit, Replace}
 use Rattle.versions.specs.declared.version.Version.{Version}
-use Rattle.versions.specs.Cuts.{before, past}
 use Rattle.versions.specs.Plain.{Task, Plain, is_on, task_on, refusal_of, given}
-use Rattle.versions.specs.Tables.{last_own}
+use Rattle.versions.specs.Tables.{last_that, last_own}
 use Rattle.versions.specs.Versions.{is_own, is_held}
 use Rattle.snooping.specs.declared.report.BusKind.{BusKind}
 use Rattle.snooping.specs.declared.report.BusKind.TheVariants.{Quiet, BusRead, BusWrite, BusWback}
@@ -48,8 +47,7 @@ supplied_by None = Memory
 supplied_by (Some p) = Processor p
 
 abbrev pub last_owner : ℕ → List Task → Option ℕ
-last_owner a [] = None
-last_owner a (t ∷ ts) = option_or (last_owner a ts) (cond (is_own (t.at a)) (Some t.on) None)
+last_owner a ts = option_map (λ t. t.on) (last_that (λ t. is_own (t.at a)) ts)
 
 -- whom the invalidations of a write reach among the later tasks: each up to the next with an own word, and that one only if
 -- it has a mark too
@@ -69,10 +67,10 @@ written_last (Some a) n = written_back a n
 -- holds the address
 abbrev pub report_of : Plain → Turn → BusReport
 report_of s (Start p) = quiet
-report_of s (Load p a) = cond (is_held ((task_on p s.order).at a)) quiet (bus_read a (supplied_by (last_owner a (before (is_on p) s.order))))
+report_of s (Load p a) = cond (is_held ((task_on p s.order).at a)) quiet (bus_read a (supplied_by (last_owner a (before_first (is_on p) s.order))))
 report_of s (Store p a w) =
-    cond (is_own ((task_on p s.order).at a) && not (list_any (λ t. is_held (t.at a)) (past (is_on p) s.order))) quiet
-    (bus_write a (powers (map (λ t. t.on) (reached (λ t. t.at a) (past (is_on p) s.order)))))
+    cond (is_own ((task_on p s.order).at a) && not (list_any (λ t. is_held (t.at a)) (after_first (is_on p) s.order))) quiet
+    (bus_write a (powers (map (λ t. t.on) (reached (λ t. t.at a) (after_first (is_on p) s.order)))))
 report_of s (Squash p) = quiet
 report_of s (Commit p) = written_last (last_own (task_on p s.order).at (length s.memory) 16) (given s (Commit p))
 report_of s (Replace p a) = cond (is_own ((task_on p s.order).at a)) (written_back a 1) quiet

@@ -1,12 +1,13 @@
 -- Laws of cutting a list at its first element that passes a test.
-use Rattle.std.proofs.Common.{◌≡◌, ℕ, suc, ◌-◌, ◌≤◌, Bool, true, false, ◌||◌, List, [], ◌∷◌, ◌++◌, map, length, take, sym, refl, ap, ◌∙◌, arith}
-use Rattle.std.specs.List.{list_any}
+use Rattle.std.proofs.Common.{◌≡◌, ℕ, suc, ◌+◌, ◌-◌, ◌≤◌, Bool, true, false, ◌||◌, List, [], ◌∷◌, ◌++◌, map, length, take, drop, sym, refl, ap, ◌∙◌, arith}
+use Rattle.std.specs.List.{list_any, position_or_len, before_first, after_first}
+use Rattle.std.proofs.Math.Seq.{take-append_seam, drop-append-add}
 use Rattle.std.proofs.lemmas.List.{length-append, length-map, take_all, take-map}
 use Rattle.std.proofs.lemmas.Bool.{or_parts, true≢false}
 use Rattle.std.proofs.lemmas.Bool.Decides.{nat_tests}
-use Rattle.versions.specs.Cuts.{before, up_to, past, changed, but_last}
+use Rattle.versions.specs.Cuts.{up_to, changed, but_last}
 
--- the first element that passes, with what stands before it and past it
+-- the first element that passes, with what stands before it and after it
 pub record Found {A : Type 0} (f : A → Bool) (xs : List A) : Type 0 where
   pub front : List A
   pub here : A
@@ -30,17 +31,20 @@ any-++ f [] ys = refl
 any-++ f (x ∷ xs) ys = let h = any-++ f xs ys in grind (arith, nat_tests)
 
 module _ {A : Type 0} (f : A → Bool) (x : A) (post : List A) (here : f x ≡ true) where
-  pub before_at : (pre : List A) → list_any f pre ≡ false → before f (pre ++ x ∷ post) ≡ pre
-  before_at [] none = rw here
-  before_at (y ∷ pre) none = let p = or_parts (f y) (list_any f pre) none in rw (p.0, before_at pre p.1)
+  -- the place of the first that passes
+  first_place : (pre : List A) → list_any f pre ≡ false → position_or_len f (pre ++ x ∷ post) ≡ length pre
+  first_place [] none = rw here
+  first_place (y ∷ pre) none = let p = or_parts (f y) (list_any f pre) none in rw p.0 (omega (arith, first_place pre p.1))
+
+  pub before_first_at : (pre : List A) → list_any f pre ≡ false → before_first f (pre ++ x ∷ post) ≡ pre
+  before_first_at pre none = ap (λ (k : ℕ). take k (pre ++ x ∷ post)) (first_place pre none) ∙ take-append_seam pre (x ∷ post)
 
   pub up_to-at : (pre : List A) → list_any f pre ≡ false → up_to f (pre ++ x ∷ post) ≡ pre ++ x ∷ []
   up_to-at [] none = rw here
   up_to-at (y ∷ pre) none = let p = or_parts (f y) (list_any f pre) none in rw (p.0, up_to-at pre p.1)
 
-  pub past-at : (pre : List A) → list_any f pre ≡ false → past f (pre ++ x ∷ post) ≡ post
-  past-at [] none = rw here
-  past-at (y ∷ pre) none = let p = or_parts (f y) (list_any f pre) none in rw (p.0, past-at pre p.1)
+  pub after_first_at : (pre : List A) → list_any f pre ≡ false → after_first f (pre ++ x ∷ post) ≡ post
+  after_first_at pre none = ap (λ (k : ℕ). drop (k + 1) (pre ++ x ∷ post)) (first_place pre none) ∙ drop-append-add pre (x ∷ post) 1
 
   pub changed-at : (g : A → A) (pre : List A) → list_any f pre ≡ false → changed f g (pre ++ x ∷ post) ≡ pre ++ g x ∷ post
   changed-at g [] none = rw here

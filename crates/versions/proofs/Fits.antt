@@ -6,7 +6,7 @@ use Rattle.versions.specs.declared.version.Version.{Version}
 use Rattle.versions.specs.Orders.{place_in, Apart}
 use Rattle.versions.specs.Versions.{no_version, is_held}
 use Rattle.versions.specs.Tables.{Table, empty_table, plain_of, with_version, without, without_all, Fitting}
-use Rattle.versions.proofs.Ordering.{place_none, place-none-cons, none-some}
+use Rattle.versions.proofs.Ordering.{place_none, place-none-cons, none-some, place_in-cons}
 use Rattle.versions.proofs.Tabling.{tasks-agree, none-past, place-take}
 
 pub fitting-empty : (n : ℕ) → Fitting n [] empty_table
@@ -59,7 +59,9 @@ fitting-put n ps table p k a v x place l class = record {
 -- versions of some processors dropped
 pub without_all-value : (table : Table) (qs : List ℕ) (r b : ℕ) → without_all table qs r b ≡ cond (is_some (place_in qs r)) no_version (table r b)
 without_all-value table [] r b = refl
-without_all-value table (q ∷ qs) r b = without_all-value (without table q) qs r b ∙ go (eqb q r) refl (place_in qs r)
+without_all-value table (q ∷ qs) r b =
+    without_all-value (without table q) qs r b
+    ∙ (go (eqb q r) refl (place_in qs r) ∙ ap (λ (o : Option ℕ). cond (is_some o) no_version (table r b)) (sym (place_in-cons q qs r)))
   where
     go : (t : Bool) → eqb q r ≡ t → (o : Option ℕ) → cond (is_some o) no_version (cond (eqb r q) no_version (table r b)) ≡ cond (is_some (cond t (Some 0) (option_map suc o))) no_version (table r b)
     go true h None = rw (eq-eqb r q (sym (eqb-true q r h)))
@@ -155,7 +157,7 @@ fitting-retire n ps table p x place = record {
     first : (qs : List ℕ) → place_in qs p ≡ Some 0 → (q : ℕ) → eqb q p ≡ false → place_in (drop 1 qs) q ≡ None → place_in qs q ≡ None
     first [] e q other none = refl
     first (r ∷ qs) e q other none =
-        let same : r ≡ p = head-is r (eqb r p) refl (place_in qs p) e in
+        let same : r ≡ p = head-is r (eqb r p) refl (place_in qs p) (sym (place_in-cons r qs p) ∙ e) in
         place-none-cons r qs q (ne_eqb r q (λ f. eqb-false q p other (sym f ∙ same))) none
       where
         head-is : (r : ℕ) (t : Bool) → eqb r p ≡ t → (o : Option ℕ) → cond t (Some 0) (option_map suc o) ≡ Some 0 → r ≡ p

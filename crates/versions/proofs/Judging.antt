@@ -12,6 +12,7 @@ use Rattle.versions.specs.Versions.{is_held}
 use Rattle.versions.specs.Plain.{Task, Plain, is_on, task_on, is_head, holds_class, refusal_of, given, moved, unless_refused, answer_of, state_after}
 use Rattle.versions.specs.Conditions.{answer_unless}
 use Rattle.versions.specs.Tables.{Table, task_by, plain_of, start_place, with_processor, active_place, unless, access_place, squash_place, commit_place, replace_place}
+use Rattle.versions.proofs.Ordering.{place_in-cons}
 use Rattle.versions.proofs.Tabling.{placed, any-task_by, task_on-is}
 
 -- a refused turn; an accepted one
@@ -66,7 +67,7 @@ chain-three false d i c v f e false (Some k) u hi hf = go (i k) v (hi k refl) (c
 -- p has the head where its place is the first
 head-is : (table : Table) (ps : List ℕ) (p k : ℕ) → place_in ps p ≡ Some k → is_head p (map (task_by table) ps) ≡ eqb k 0
 head-is table [] p k e = let z : ◌≡◌ {A = ℕ} 0 1 = cc in absurd (omega arith)
-head-is table (q ∷ ps) p k e = go (eqb q p) (place_in ps p) e
+head-is table (q ∷ ps) p k e = go (eqb q p) (place_in ps p) (sym (place_in-cons q ps p) ∙ e)
   where
     go : (t : Bool) (o : Option ℕ) → cond t (Some 0) (option_map suc o) ≡ Some k → t ≡ eqb k 0
     go true o e = let z : 0 ≡ k = cc in sym (eq-eqb k 0 (sym z))

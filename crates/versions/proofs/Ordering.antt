@@ -1,11 +1,36 @@
 -- Laws of the order of the active tasks: the place of a processor in it, and that no processor is in it twice.
-use Rattle.std.proofs.Common.{◌≡◌, ℕ, zero, suc, ◌<◌, ◌≤◌, Bool, true, false, cond, eqb, List, [], ◌∷◌, ◌++◌, length, get_or, take, drop, Some, None, Option, sym, refl, ap, arith}
+use Rattle.std.proofs.Common.{◌≡◌, ℕ, zero, suc, ◌+◌, ◌<◌, ◌≤◌, Bool, true, false, cond, not, eqb, ltb, List, [], ◌∷◌, ◌++◌, length, get_or, take, drop, Some, None, Option, sym, refl, ap, ◌∙◌, ⊎_elim, arith}
+use Rattle.std.specs.List.{position_or_len}
 use Rattle.std.specs.Option.{option_map}
-use Rattle.std.proofs.lemmas.Bool.{ne_eqb, eqb-false}
+use Rattle.std.proofs.lemmas.Bool.{ne_eqb, eqb-false, cond-true, cond-false, lt-ltb, le-ltb, cases_lt}
 use Rattle.versions.specs.Orders.{place_in, Apart}
 
 pub none-some : {A : Type 0} (x : A) → Some x ≡ None → ⊥
 none-some x e = let z : ◌≡◌ {A = ℕ} 0 1 = cc in omega arith
+
+-- the place in a list by that in its rest
+pub place_in-cons : (q : ℕ) (qs : List ℕ) (p : ℕ) → place_in (q ∷ qs) p ≡ cond (eqb q p) (Some 0) (option_map suc (place_in qs p))
+place_in-cons q qs p = go (eqb q p)
+  where
+    n : ℕ
+    n = position_or_len (λ r. eqb r p) qs
+
+    go : (t : Bool) → cond (ltb (cond (not t) (1 + n) 0) (suc (length qs))) (Some (cond (not t) (1 + n) 0)) None
+        ≡ cond t (Some 0) (option_map suc (cond (ltb n (length qs)) (Some n) None))
+    go true = cond-true (ltb 0 (suc (length qs))) (Some 0) None (lt-ltb 0 (suc (length qs)) (omega arith))
+    go false =
+        ⊎_elim
+        (λ (h : n < length qs). cond-true (ltb (1 + n) (suc (length qs))) (Some (1 + n)) None (lt-ltb (1 + n) (suc (length qs)) (omega (arith, h)))
+        ∙ (ap Some (omega arith) ∙ ap (option_map suc) (sym (cond-true (ltb n (length qs)) (Some n) None (lt-ltb n (length qs) h)))))
+        (λ (h : length qs ≤ n). cond-false (ltb (1 + n) (suc (length qs))) (Some (1 + n)) None (le-ltb (1 + n) (suc (length qs)) (omega (arith, h)))
+        ∙ ap (option_map suc) (sym (cond-false (ltb n (length qs)) (Some n) None (le-ltb n (length qs) h))))
+        (cases_lt n (length qs))
+
+pub place-first : (q : ℕ) (qs : List ℕ) (p : ℕ) → eqb q p ≡ true → place_in (q ∷ qs) p ≡ Some 0
+place-first q qs p h = place_in-cons q qs p ∙ rw h
+
+pub place-later : (q : ℕ) (qs : List ℕ) (p j : ℕ) → eqb q p ≡ false → place_in qs p ≡ Some j → place_in (q ∷ qs) p ≡ Some (suc j)
+place-later q qs p j h e = place_in-cons q qs p ∙ rw h (ap (option_map suc) e)
 
 mapped-none : (o : Option ℕ) → option_map suc o ≡ None → o ≡ None
 mapped-none None e = refl
@@ -13,14 +38,14 @@ mapped-none (Some n) e = absurd (none-some (suc n) e)
 
 -- p is not in a list: it is not the first, and not in the rest
 pub place_none : (q : ℕ) (qs : List ℕ) (p : ℕ) → place_in (q ∷ qs) p ≡ None → (eqb q p ≡ false) × (place_in qs p ≡ None)
-place_none q qs p e = go (eqb q p) e
+place_none q qs p e = go (eqb q p) (sym (place_in-cons q qs p) ∙ e)
   where
     go : (t : Bool) → cond t (Some 0) (option_map suc (place_in qs p)) ≡ None → (t ≡ false) × (place_in qs p ≡ None)
     go true e = absurd (none-some 0 e)
     go false e = (refl, mapped-none (place_in qs p) e)
 
 pub place-none-cons : (q : ℕ) (qs : List ℕ) (p : ℕ) → eqb q p ≡ false → place_in qs p ≡ None → place_in (q ∷ qs) p ≡ None
-place-none-cons q qs p other none = rw (other, none)
+place-none-cons q qs p other none = place_in-cons q qs p ∙ rw other (ap (option_map suc) none)
 
 pub place-none-push : (qs : List ℕ) (q p : ℕ) → place_in qs p ≡ None → eqb q p ≡ false → place_in (qs ++ q ∷ []) p ≡ None
 place-none-push [] q p none other = place-none-cons q [] p other refl
@@ -55,14 +80,16 @@ apart-drop (q ∷ qs) a = a.2
 
 -- the place of p after one more is looked at
 pub place-other : (qs : List ℕ) (q p : ℕ) → eqb q p ≡ false → place_in (qs ++ q ∷ []) p ≡ place_in qs p
-place-other [] q p other = rw other
-place-other (r ∷ qs) q p other = ap (λ (o : Option ℕ). cond (eqb r p) (Some 0) (option_map suc o)) (place-other qs q p other)
+place-other [] q p other = place-none-cons q [] p other refl
+place-other (r ∷ qs) q p other =
+    place_in-cons r (qs ++ q ∷ []) p
+    ∙ (ap (λ (o : Option ℕ). cond (eqb r p) (Some 0) (option_map suc o)) (place-other qs q p other) ∙ sym (place_in-cons r qs p))
 
 pub place-found : (qs : List ℕ) (q p : ℕ) → place_in qs p ≡ None → eqb q p ≡ true → place_in (qs ++ q ∷ []) p ≡ Some (length qs)
-place-found [] q p none same = rw same
+place-found [] q p none same = place-first q [] p same
 place-found (r ∷ qs) q p none same =
     let n = place_none r qs p none in
-    rw (n.0, place-found qs q p n.1 same)
+    place-later r (qs ++ q ∷ []) p (length qs) n.0 (place-found qs q p n.1 same)
 
 differs : (a b : ℕ) → eqb a b ≡ false → a ≡ b → ⊥
 differs a b e = eqb-false a b e

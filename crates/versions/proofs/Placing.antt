@@ -5,7 +5,7 @@ use Rattle.std.proofs.lemmas.Bool.{ne_eqb, eq-eqb, eqb-true, cond-true, cond-fal
 use Rattle.std.proofs.lemmas.List.{append-nil, drop_all, get_or-map, get_or-set_other, length-map, length-set, take_all}
 use Rattle.std.proofs.lemmas.Grind.{get_or-set_at}
 use Rattle.versions.specs.Orders.{place_in, Apart, Placing, kept_below, moved_down}
-use Rattle.versions.proofs.Ordering.{none-some, place-none-cons, place-found, place-other}
+use Rattle.versions.proofs.Ordering.{none-some, place-none-cons, place-found, place-other, place_in-cons}
 
 -- a place, where 4 is none
 abbrev pub found : ℕ → Option ℕ
@@ -59,7 +59,10 @@ place-in-take zero ps q = none (place_in ps q)
     none None = refl
     none (Some j) = sym (cond-false (ltb j zero) (Some j) None (le-ltb j zero (omega arith)))
 place-in-take (suc k) [] q = refl
-place-in-take (suc k) (r ∷ ps) q = ap (λ (o : Option ℕ). cond (eqb r q) (Some 0) (option_map suc o)) (place-in-take k ps q) ∙ go (eqb r q) (place_in ps q)
+place-in-take (suc k) (r ∷ ps) q =
+    place_in-cons r (take k ps) q
+    ∙ (ap (λ (o : Option ℕ). cond (eqb r q) (Some 0) (option_map suc o)) (place-in-take k ps q)
+    ∙ (go (eqb r q) (place_in ps q) ∙ ap (only_below (suc k)) (sym (place_in-cons r ps q))))
   where
     go : (t : Bool) (o : Option ℕ) → cond t (Some 0) (option_map suc (only_below k o)) ≡ only_below (suc k) (cond t (Some 0) (option_map suc o))
     go true o = sym (cond-true (ltb 0 (suc k)) (Some 0) None (lt-ltb 0 (suc k) (omega arith)))
@@ -122,7 +125,7 @@ placing-drop (r ∷ ps) places a x some = mapped (r ∷ ps) places moved_down ps
         go false = omega (arith, h)
 
     each : (q x : ℕ) → q < 4 → x ≤ 4 → found x ≡ place_in (r ∷ ps) q → found (moved_down x) ≡ place_in ps q
-    each q x small h is = go (eqb r q) refl (place_in ps q) refl is
+    each q x small h is = go (eqb r q) refl (place_in ps q) refl (is ∙ place_in-cons r ps q)
       where
         four : found x ≡ None → x ≡ 4
         four none = ⊎_elim (λ (less : x < 4). absurd (none-some x (sym (found-some x less) ∙ none))) (λ (more : 4 ≤ x). omega (arith, more, h)) (cases_lt x 4)

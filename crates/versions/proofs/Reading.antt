@@ -1,9 +1,9 @@
 -- Sequential reading: from the book and the plain store going together, whatever led there.
 use Rattle.std.proofs.Common.{◌≡◌, ℕ, suc, ◌<◌, true, false, List, [], ◌∷◌, ◌++◌, map, length, get_or, take, drop, Ok, sym, refl, ap, ◌∙◌, subst, arith}
+use Rattle.std.specs.List.{after_first}
 use Rattle.std.proofs.lemmas.List.{take-map, length-map, take-append-drop}
 use Rattle.std.proofs.lemmas.Bool.{cond-true, cond-false}
 use Rattle.versions.specs.declared.turn.Turn.TheVariants.{Store}
-use Rattle.versions.specs.Cuts.{past}
 use Rattle.versions.specs.declared.version.Version.{Version}
 use Rattle.versions.specs.Versions.{seen_by}
 use Rattle.versions.specs.Plain.{Task, Plain, opened, memory_words, column, answer_of, state_after}
@@ -35,7 +35,7 @@ leads-together ws b s (e ∷ es) t i l = leads-together ws (fed_one b e.turn e.a
 
 -- each store on the way was exact
 leads-exact : (ws : List ℕ) (b : Book) (s : Plain) (before : List Event) (p a w n : ℕ) (rest : List Event) (t : Plain)
-    → Together ws b s → Leads s (before ++ record { turn = Store p a w; answer = Ok n } ∷ rest) t → ExactSquash a (past (is_task_of p) (fed_all b before)) n
+    → Together ws b s → Leads s (before ++ record { turn = Store p a w; answer = Ok n } ∷ rest) t → ExactSquash a (after_first (is_task_of p) (fed_all b before)) n
 leads-exact ws b s [] p a w n rest t i l = answered-exact ws b s p a w n i l.0
 leads-exact ws b s (e ∷ before) p a w n rest t i l =
     leads-exact ws (fed_one b e.turn e.answer) (state_after s e.turn) before p a w n rest t (event-together ws b s e i l.0) l.1

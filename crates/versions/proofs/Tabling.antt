@@ -1,21 +1,21 @@
 -- The plain store's turns, said of an order of processors and a table of versions. Every store that keeps such a table
 -- uses these laws.
 use Rattle.std.proofs.Common.{◌≡◌, ℕ, zero, suc, ◌-◌, ◌<◌, ◌≤◌, Bool, true, false, cond, ◌&&◌, ◌||◌, eqb, List, [], ◌∷◌, ◌++◌, map, length, get_or, take, drop, is_some, Some, None, Option, sym, refl, ap, ◌∙◌, subst, arith}
-use Rattle.std.specs.List.{list_any}
+use Rattle.std.specs.List.{list_any, before_first, after_first}
 use mathlib.Core.Path.{fun_ext}
 use Rattle.std.specs.Option.{option_map}
 use Rattle.std.proofs.lemmas.List.{map-append, length-map, length-drop}
-use Rattle.std.proofs.lemmas.Bool.{eq-eqb, eqb-true, cond-true, cond-false}
+use Rattle.std.proofs.lemmas.Bool.{eq-eqb, eqb-true}
 use Rattle.memory.specs.Client.{count_below}
 use Rattle.versions.specs.declared.version.Version.{Version}
 use Rattle.versions.specs.declared.turn.Turn.TheVariants.{Start, Load, Store, Squash, Commit, Replace}
-use Rattle.versions.specs.Cuts.{before, up_to, past, changed, but_last}
+use Rattle.versions.specs.Cuts.{up_to, changed, but_last}
 use Rattle.versions.specs.Orders.{place_in, Apart}
 use Rattle.versions.specs.Versions.{no_version, is_own, with_load, with_store, seen_by, squashed_by}
 use Rattle.versions.specs.Plain.{Task, fresh, is_on, changed_at, column, task_on, laid_over_all, written_to, given, moved}
 use Rattle.versions.specs.Tables.{Table, task_by, plain_of, with_version}
-use Rattle.versions.proofs.Cutting.{before_at, up_to-at, past-at, changed-at, but_last-map}
-use Rattle.versions.proofs.Ordering.{place_none, place-none-cons, apart-take}
+use Rattle.versions.proofs.Cutting.{before_first_at, up_to-at, after_first_at, changed-at, but_last-map}
+use Rattle.versions.proofs.Ordering.{place_none, place-none-cons, apart-take, place_in-cons, place-first, place-later}
 use Rattle.versions.proofs.Turning.{task_on-at}
 
 -- p at place k cuts the processors in three
@@ -35,7 +35,7 @@ placed-cons q ps p k other x = record {
 
 pub placed : (ps : List ℕ) (p k : ℕ) → place_in ps p ≡ Some k → Placed ps p k
 placed [] p k e = let z : ◌≡◌ {A = ℕ} 0 1 = cc in absurd (omega arith)
-placed (q ∷ ps) p k e = go (eqb q p) refl e (place_in ps p) refl (λ j h. placed ps p j h)
+placed (q ∷ ps) p k e = go (eqb q p) refl (sym (place_in-cons q ps p) ∙ e) (place_in ps p) refl (λ j h. placed ps p j h)
   where
     go : (t : Bool) → eqb q p ≡ t → cond t (Some 0) (option_map suc (place_in ps p)) ≡ Some k → (o : Option ℕ) → place_in ps p ≡ o
         → ((j : ℕ) → place_in ps p ≡ Some j → Placed ps p j) → Placed (q ∷ ps) p k
@@ -52,7 +52,7 @@ placed (q ∷ ps) p k e = go (eqb q p) refl e (place_in ps p) refl (λ j h. plac
 -- where processors are apart, p is not past its place either
 pub none-past : (ps : List ℕ) (p k : ℕ) → Apart ps → place_in ps p ≡ Some k → place_in (drop (suc k) ps) p ≡ None
 none-past [] p k a e = refl
-none-past (q ∷ ps) p k a e = go (eqb q p) refl e (place_in ps p) refl (λ j h. none-past ps p j a.2 h)
+none-past (q ∷ ps) p k a e = go (eqb q p) refl (sym (place_in-cons q ps p) ∙ e) (place_in ps p) refl (λ j h. none-past ps p j a.2 h)
   where
     go : (t : Bool) → eqb q p ≡ t → cond t (Some 0) (option_map suc (place_in ps p)) ≡ Some k → (o : Option ℕ) → place_in ps p ≡ o
         → ((j : ℕ) → place_in ps p ≡ Some j → place_in (drop (suc j) ps) p ≡ None) → place_in (drop k ps) p ≡ None
@@ -68,7 +68,7 @@ none-past (q ∷ ps) p k a e = go (eqb q p) refl e (place_in ps p) refl (λ j h.
 module _ (table : Table) where
   pub any-task_by : (ps : List ℕ) (p : ℕ) → list_any (is_on p) (map (task_by table) ps) ≡ is_some (place_in ps p)
   any-task_by [] p = refl
-  any-task_by (q ∷ ps) p = go (eqb q p) (place_in ps p) (any-task_by ps p)
+  any-task_by (q ∷ ps) p = go (eqb q p) (place_in ps p) (any-task_by ps p) ∙ ap is_some (sym (place_in-cons q ps p))
     where
       go : (t : Bool) (o : Option ℕ) → list_any (is_on p) (map (task_by table) ps) ≡ is_some o → (t || list_any (is_on p) (map (task_by table) ps)) ≡ is_some (cond t (Some 0) (option_map suc o))
       go true o h = refl
@@ -86,18 +86,18 @@ module _ (table : Table) where
     order-parts : map (task_by table) ps ≡ map (task_by table) (take k ps) ++ task_by table p ∷ map (task_by table) (drop (suc k) ps)
     order-parts = ap (map (task_by table)) x.parts ∙ map-append (task_by table) (take k ps) (p ∷ drop (suc k) ps)
 
-    pub before-is : before (is_on p) (map (task_by table) ps) ≡ map (task_by table) (take k ps)
-    before-is = ap (before (is_on p)) order-parts
-        ∙ before_at (is_on p) (task_by table p) (map (task_by table) (drop (suc k) ps)) (here_on p) (map (task_by table) (take k ps)) (none-on (take k ps) p x.none)
+    pub before_first_is : before_first (is_on p) (map (task_by table) ps) ≡ map (task_by table) (take k ps)
+    before_first_is = ap (before_first (is_on p)) order-parts
+        ∙ before_first_at (is_on p) (task_by table p) (map (task_by table) (drop (suc k) ps)) (here_on p) (map (task_by table) (take k ps)) (none-on (take k ps) p x.none)
 
     pub up_to-is : up_to (is_on p) (map (task_by table) ps) ≡ map (task_by table) (take (suc k) ps)
     up_to-is = ap (up_to (is_on p)) order-parts
         ∙ (up_to-at (is_on p) (task_by table p) (map (task_by table) (drop (suc k) ps)) (here_on p) (map (task_by table) (take k ps)) (none-on (take k ps) p x.none)
         ∙ sym (ap (map (task_by table)) x.upto ∙ map-append (task_by table) (take k ps) (p ∷ [])))
 
-    pub past_is : past (is_on p) (map (task_by table) ps) ≡ map (task_by table) (drop (suc k) ps)
-    past_is = ap (past (is_on p)) order-parts
-        ∙ past-at (is_on p) (task_by table p) (map (task_by table) (drop (suc k) ps)) (here_on p) (map (task_by table) (take k ps)) (none-on (take k ps) p x.none)
+    pub after_first_is : after_first (is_on p) (map (task_by table) ps) ≡ map (task_by table) (drop (suc k) ps)
+    after_first_is = ap (after_first (is_on p)) order-parts
+        ∙ after_first_at (is_on p) (task_by table p) (map (task_by table) (drop (suc k) ps)) (here_on p) (map (task_by table) (take k ps)) (none-on (take k ps) p x.none)
 
     pub task_on-is : task_on p (map (task_by table) ps) ≡ task_by table p
     task_on-is = ap (task_on p) order-parts
@@ -120,14 +120,14 @@ tasks-agree other table (q ∷ ps) p none agree =
 pub tasks-same : (other table : Table) (ps : List ℕ) → ((q k : ℕ) → place_in ps q ≡ Some k → (b : ℕ) → other q b ≡ table q b) → map (task_by other) ps ≡ map (task_by table) ps
 tasks-same other table [] agree = refl
 tasks-same other table (q ∷ ps) agree =
-    let first : place_in (q ∷ ps) q ≡ Some 0 = cond-true (eqb q q) (Some 0) (option_map suc (place_in ps q)) (eq-eqb q q refl) in
+    let first : place_in (q ∷ ps) q ≡ Some 0 = place-first q ps q (eq-eqb q q refl) in
     let same : task_by other q ≡ task_by table q = ap (λ (f : ℕ → Version). record { on = q; at = f }) (fun_ext (λ b. agree q 0 first b)) in
     ap (λ (t : Task). t ∷ map (task_by other) ps) same
     ∙ ap (λ (l : List Task). task_by table q ∷ l) (tasks-same other table ps (λ r k e b. later r k e b (eqb q r) refl))
   where
     later : (r k : ℕ) → place_in ps r ≡ Some k → (b : ℕ) (t : Bool) → eqb q r ≡ t → other r b ≡ table r b
-    later r k e b true h = agree r 0 (cond-true (eqb q r) (Some 0) (option_map suc (place_in ps r)) h) b
-    later r k e b false h = agree r (suc k) (cond-false (eqb q r) (Some 0) (option_map suc (place_in ps r)) h ∙ ap (option_map suc) e) b
+    later r k e b true h = agree r 0 (place-first q ps r h) b
+    later r k e b false h = agree r (suc k) (place-later q ps r k h e) b
 
 with_version-other : (table : Table) (p a : ℕ) (v : Version) (q b : ℕ) → eqb q p ≡ false → with_version table p a v q b ≡ table q b
 with_version-other table p a v q b e = rw e
@@ -154,7 +154,8 @@ changed-is table ps p k a f apart place =
 pub place-take : (m : ℕ) (ps : List ℕ) (p k : ℕ) → place_in ps p ≡ Some k → k < m → place_in (take m ps) p ≡ Some k
 place-take zero ps p k e h = absurd (omega arith)
 place-take (suc m) [] p k e h = e
-place-take (suc m) (q ∷ ps) p k e h = go (eqb q p) e (place_in ps p) refl (λ j i l. place-take m ps p j i l)
+place-take (suc m) (q ∷ ps) p k e h =
+    place_in-cons q (take m ps) p ∙ go (eqb q p) (sym (place_in-cons q ps p) ∙ e) (place_in ps p) refl (λ j i l. place-take m ps p j i l)
   where
     go : (t : Bool) → cond t (Some 0) (option_map suc (place_in ps p)) ≡ Some k → (o : Option ℕ) → place_in ps p ≡ o
         → ((j : ℕ) → place_in ps p ≡ Some j → j < m → place_in (take m ps) p ≡ Some j) → cond t (Some 0) (option_map suc (place_in (take m ps) p)) ≡ Some k
@@ -192,7 +193,7 @@ module _ (ws : List ℕ) (ps : List ℕ) (table : Table) (p k : ℕ) (apart : Ap
   moved-load a = ap (λ (o : List Task). record { memory = ws; order = o }) (changed-is table ps p k a with_load apart place)
 
   pub given-store : (a w : ℕ) → given (plain_of ws ps table) (Store p a w) ≡ squashes table ps k a
-  given-store a w = ap squashed_by (ap (column a) (past_is table ps p k (placed ps p k place)) ∙ column-is table a (drop (suc k) ps))
+  given-store a w = ap squashed_by (ap (column a) (after_first_is table ps p k (placed ps p k place)) ∙ column-is table a (drop (suc k) ps))
 
   pub moved_store : (a w : ℕ) → moved (plain_of ws ps table) (Store p a w)
       ≡ plain_of ws (take (length ps - squashes table ps k a) ps) (with_version table p a (with_store w (table p a)))
@@ -206,21 +207,21 @@ module _ (ws : List ℕ) (ps : List ℕ) (table : Table) (p k : ℕ) (apart : Ap
 
   pub given-squash : given (plain_of ws ps table) (Squash p) ≡ length ps - k
   given-squash =
-      ap (λ (l : List Task). suc (length l)) (past_is table ps p k (placed ps p k place))
+      ap (λ (l : List Task). suc (length l)) (after_first_is table ps p k (placed ps p k place))
       ∙ omega (arith, length-map (drop (suc k) ps) (task_by table), length-drop (suc k) ps, (placed ps p k place).within)
 
   pub moved-squash : moved (plain_of ws ps table) (Squash p) ≡ plain_of ws (take k ps) table
-  moved-squash = ap (λ (o : List Task). record { memory = ws; order = o }) (before-is table ps p k (placed ps p k place))
+  moved-squash = ap (λ (o : List Task). record { memory = ws; order = o }) (before_first_is table ps p k (placed ps p k place))
 
   pub given-commit : given (plain_of ws ps table) (Commit p) ≡ count_below (λ a. is_own (table p a)) (length ws)
   given-commit = ap (λ (t : Task). count_below (λ a. is_own (t.at a)) (length ws)) (task_on-is table ps p k (placed ps p k place))
 
   pub moved-commit : k ≡ 0 → moved (plain_of ws ps table) (Commit p) ≡ plain_of (laid_over_all (table p) ws) (drop 1 ps) table
   moved-commit first =
-      let front : before (is_on p) (map (task_by table) ps) ≡ [] = before-is table ps p k (placed ps p k place) ∙ ap (λ (n : ℕ). map (task_by table) (take n ps)) first in
-      let back : past (is_on p) (map (task_by table) ps) ≡ map (task_by table) (drop 1 ps) = past_is table ps p k (placed ps p k place) ∙ ap (λ (n : ℕ). map (task_by table) (drop (suc n) ps)) first in
-      ap (λ (t : Task). record { memory = laid_over_all t.at ws; order = before (is_on p) (map (task_by table) ps) ++ past (is_on p) (map (task_by table) ps) }) (task_on-is table ps p k (placed ps p k place))
-      ∙ (ap (λ (o : List Task). record { memory = laid_over_all (table p) ws; order = o ++ past (is_on p) (map (task_by table) ps) }) front
+      let front : before_first (is_on p) (map (task_by table) ps) ≡ [] = before_first_is table ps p k (placed ps p k place) ∙ ap (λ (n : ℕ). map (task_by table) (take n ps)) first in
+      let back : after_first (is_on p) (map (task_by table) ps) ≡ map (task_by table) (drop 1 ps) = after_first_is table ps p k (placed ps p k place) ∙ ap (λ (n : ℕ). map (task_by table) (drop (suc n) ps)) first in
+      ap (λ (t : Task). record { memory = laid_over_all t.at ws; order = before_first (is_on p) (map (task_by table) ps) ++ after_first (is_on p) (map (task_by table) ps) }) (task_on-is table ps p k (placed ps p k place))
+      ∙ (ap (λ (o : List Task). record { memory = laid_over_all (table p) ws; order = o ++ after_first (is_on p) (map (task_by table) ps) }) front
       ∙ ap (λ (o : List Task). record { memory = laid_over_all (table p) ws; order = o }) back)
 
   pub given-replace : (a : ℕ) → given (plain_of ws ps table) (Replace p a) ≡ cond (is_own (table p a)) 1 0

@@ -1,20 +1,20 @@
 -- The book and the plain store go together through every turn.
 use Rattle.std.proofs.Common.{◌≡◌, ℕ, ◌<◌, ◌≤◌, Bool, true, false, cond, not, ◌||◌, eqb, List, [], ◌∷◌, ◌++◌, map, length, get_or, Some, None, Ok, Option, sym, refl, ap, ◌∙◌, subst, arith}
-use Rattle.std.specs.List.{list_any}
+use Rattle.std.specs.List.{list_any, before_first, after_first}
 use Rattle.std.proofs.lemmas.List.{append_assoc, map-append, length-map}
 use Rattle.std.proofs.lemmas.Bool.{or_parts, or_from, and_from, and_left, true≢false, not-false, leb-false}
 use Rattle.std.proofs.lemmas.Bool.Decides.{nat_tests}
 use Rattle.versions.specs.declared.refusal.Refusal.{Refusal}
 use Rattle.versions.specs.declared.turn.Turn.{Turn}
 use Rattle.versions.specs.declared.turn.Turn.TheVariants.{Start, Load, Store, Squash, Commit, Replace}
-use Rattle.versions.specs.Cuts.{before, up_to, past, changed, but_last}
+use Rattle.versions.specs.Cuts.{up_to, changed, but_last}
 use Rattle.versions.specs.declared.version.Version.{Version}
 use Rattle.versions.specs.Versions.{no_version, with_load, with_store, seen_by, squashed_by}
 use Rattle.versions.specs.Plain.{Task, Plain, fresh, is_on, changed_at, column, task_on, is_head, conditions, refusal_of, given, moved, unless_refused, answer_of, state_after}
 use Rattle.versions.specs.Conditions.{answer_unless, first_of}
 use Rattle.versions.specs.Book.{loaded, stored, replaced, Entry, Book, is_task_of, with_access, as_committed, accepted, fed_one, all_accesses, after_run}
 use Rattle.versions.specs.Sequential.{ExactSquash}
-use Rattle.versions.proofs.Cutting.{found, any-++, before_at, up_to-at, past-at, changed-at, but_last-at, but_last-map}
+use Rattle.versions.proofs.Cutting.{found, any-++, before_first_at, up_to-at, after_first_at, changed-at, but_last-at, but_last-map}
 use Rattle.versions.proofs.Columns.{task_of, version_of, task_of-at, column-task_of, task_of-load, task_of-store, task_of-replace, squash_count, squashed_by-count, squash_count-le, exact}
 use Rattle.versions.proofs.Holding.{Each, each_right, Held, clean-past, settled, seen-up_to, held_start, held-load, held-store, held-squash, held-commit, held-replace}
 
@@ -122,10 +122,10 @@ module _ (ws : List ℕ) (b : Book) (s : Plain) where
     task-is : task_on p s.order ≡ task_of x.here
     task-is = ap (task_on p) x.order ∙ task_on-at p (map task_of x.pre) (task_of x.here) (map task_of x.post) x.plain-none x.plain_here
 
-    later-is : (a : ℕ) → column a (past (is_on p) s.order) ≡ map (version_of a) x.post
+    later-is : (a : ℕ) → column a (after_first (is_on p) s.order) ≡ map (version_of a) x.post
     later-is a =
-        ap (λ (r : List Task). column a (past (is_on p) r)) x.order
-        ∙ (ap (column a) (past-at (is_on p) (task_of x.here) (map task_of x.post) x.plain_here (map task_of x.pre) x.plain-none) ∙ column-task_of x.post a)
+        ap (λ (r : List Task). column a (after_first (is_on p) r)) x.order
+        ∙ (ap (column a) (after_first_at (is_on p) (task_of x.here) (map task_of x.post) x.plain_here (map task_of x.pre) x.plain-none) ∙ column-task_of x.post a)
 
     -- what a load sees is what the run leaves
     load-sees : (a : ℕ) → a < length ws
@@ -180,8 +180,8 @@ module _ (ws : List ℕ) (b : Book) (s : Plain) where
     squash-together n other = record {
       done = x.done;
       rest = x.pre;
-      parts = ap (before (is_task_of p)) x.book ∙ before_at (is_task_of p) x.here x.post x.book-here (x.done ++ x.pre) x.book-none;
-      tasks = ap (before (is_on p)) x.order ∙ before_at (is_on p) (task_of x.here) (map task_of x.post) x.plain_here (map task_of x.pre) x.plain-none;
+      parts = ap (before_first (is_task_of p)) x.book ∙ before_first_at (is_task_of p) x.here x.post x.book-here (x.done ++ x.pre) x.book-none;
+      tasks = ap (before_first (is_on p)) x.order ∙ before_first_at (is_on p) (task_of x.here) (map task_of x.post) x.plain_here (map task_of x.pre) x.plain-none;
       held = front-held x.pre (sym (ap (is_head p) x.order) ∙ other) x.plain_here x.held;
     }
       where
@@ -211,9 +211,9 @@ module _ (ws : List ℕ) (b : Book) (s : Plain) where
               book-changed as_committed
               ∙ (ap (λ (pre : List Entry). x.done ++ (pre ++ as_committed x.here ∷ x.post)) none ∙ sym (append_assoc x.done (as_committed x.here ∷ []) x.post));
           tasks =
-              ap (λ (r : List Task). before (is_on p) r ++ past (is_on p) r) x.order
-              ∙ (ap (λ (r : List Task). r ++ past (is_on p) (map task_of x.pre ++ task_of x.here ∷ map task_of x.post)) (before_at (is_on p) (task_of x.here) (map task_of x.post) x.plain_here (map task_of x.pre) x.plain-none)
-              ∙ (ap (λ (r : List Task). map task_of x.pre ++ r) (past-at (is_on p) (task_of x.here) (map task_of x.post) x.plain_here (map task_of x.pre) x.plain-none)
+              ap (λ (r : List Task). before_first (is_on p) r ++ after_first (is_on p) r) x.order
+              ∙ (ap (λ (r : List Task). r ++ after_first (is_on p) (map task_of x.pre ++ task_of x.here ∷ map task_of x.post)) (before_first_at (is_on p) (task_of x.here) (map task_of x.post) x.plain_here (map task_of x.pre) x.plain-none)
+              ∙ (ap (λ (r : List Task). map task_of x.pre ++ r) (after_first_at (is_on p) (task_of x.here) (map task_of x.post) x.plain_here (map task_of x.pre) x.plain-none)
               ∙ ap (λ (pre : List Entry). map task_of pre ++ map task_of x.post) none));
           held = held-commit ws x.done s.memory x.here x.post (task_on p s.order).at (λ a. ap (λ (t : Task). t.at a) task-is ∙ task_of-at x.here a) (head-held head);
         }
@@ -231,11 +231,11 @@ module _ (ws : List ℕ) (b : Book) (s : Plain) where
         }
 
     -- and what a store squashes is exact
-    store-exact : (a w : ℕ) → ExactSquash a (past (is_task_of p) b) (given s (Store p a w))
+    store-exact : (a w : ℕ) → ExactSquash a (after_first (is_task_of p) b) (given s (Store p a w))
     store-exact a w =
         let count : given s (Store p a w) ≡ squash_count a x.post = ap squashed_by (later-is a) ∙ squashed_by-count a x.post (clean-past x.pre x.here x.post x.held.clean) in
-        let later : past (is_task_of p) b ≡ x.post = ap (past (is_task_of p)) x.book ∙ past-at (is_task_of p) x.here x.post x.book-here (x.done ++ x.pre) x.book-none in
-        subst (λ (n : ℕ). ExactSquash a (past (is_task_of p) b) n) (sym count) (subst (λ (l : List Entry). ExactSquash a l (squash_count a x.post)) (sym later) (exact a x.post))
+        let later : after_first (is_task_of p) b ≡ x.post = ap (after_first (is_task_of p)) x.book ∙ after_first_at (is_task_of p) x.here x.post x.book-here (x.done ++ x.pre) x.book-none in
+        subst (λ (n : ℕ). ExactSquash a (after_first (is_task_of p) b) n) (sym count) (subst (λ (l : List Entry). ExactSquash a l (squash_count a x.post)) (sym later) (exact a x.post))
 
 -- an accepted turn keeps them together
 accepted-together : (ws : List ℕ) (b : Book) (s : Plain) (t : Turn) → Together ws b s → Passed (conditions s t) → Together ws (accepted b t (given s t)) (moved s t)
@@ -261,13 +261,13 @@ turn-together ws b s t i = go (refusal_of s t) refl
     go (Some r) h = i
 
 -- a store that was answered with a number squashed exactly what had to go
-pub answered-exact : (ws : List ℕ) (b : Book) (s : Plain) (p a w n : ℕ) → Together ws b s → Ok n ≡ answer_of s (Store p a w) → ExactSquash a (past (is_task_of p) b) n
+pub answered-exact : (ws : List ℕ) (b : Book) (s : Plain) (p a w n : ℕ) → Together ws b s → Ok n ≡ answer_of s (Store p a w) → ExactSquash a (after_first (is_task_of p) b) n
 unfolding answer_of
 answered-exact ws b s p a w n i e = go (refusal_of s (Store p a w)) refl e
   where
-    go : (o : Option Refusal) → refusal_of s (Store p a w) ≡ o → Ok n ≡ answer_unless o (given s (Store p a w)) → ExactSquash a (past (is_task_of p) b) n
+    go : (o : Option Refusal) → refusal_of s (Store p a w) ≡ o → Ok n ≡ answer_unless o (given s (Store p a w)) → ExactSquash a (after_first (is_task_of p) b) n
     go None h e =
         let c = passed (conditions s (Store p a w)) h in
         let same : n ≡ given s (Store p a w) = cc in
-        subst (λ (m : ℕ). ExactSquash a (past (is_task_of p) b) m) (sym same) (store-exact ws b s p (spot ws b s p i (not-false (list_any (is_on p) s.order) c.1.0)) a w)
+        subst (λ (m : ℕ). ExactSquash a (after_first (is_task_of p) b) m) (sym same) (store-exact ws b s p (spot ws b s p i (not-false (list_any (is_on p) s.order) c.1.0)) a w)
     go (Some r) h e = let z : ◌≡◌ {A = ℕ} 0 1 = cc in absurd (omega arith)

@@ -1,9 +1,10 @@
 -- The book of what survives, fed with turns and their answers alone, and the sequential run of what it holds.
 use Rattle.std.specs.Prelude.{ℕ, Bool, true, false, cond, not, ◌&&◌, ◌||◌, List, [], ◌∷◌, ◌++◌, Ok, Err, Result, ◌==◌}
+use Rattle.std.specs.List.{before_first}
 use Rattle.versions.specs.declared.refusal.Refusal.{Refusal}
 use Rattle.versions.specs.declared.turn.Turn.{Turn}
 use Rattle.versions.specs.declared.turn.Turn.TheVariants.{Start, Load, Store, Squash, Commit, Replace}
-use Rattle.versions.specs.Cuts.{before, changed, but_last}
+use Rattle.versions.specs.Cuts.{changed, but_last}
 
 -- what a task did: a load of an address, with the word that it gave; a store to an address, with its word; or a
 -- replacement of an address
@@ -37,7 +38,7 @@ abbrev pub accepted : Book → Turn → ℕ → Book
 accepted b (Start p) n = b ++ record { by = p; committed = false; accesses = [] } ∷ []
 accepted b (Load p a) n = changed (is_task_of p) (with_access (loaded a n)) b
 accepted b (Store p a w) n = changed (is_task_of p) (with_access (stored a w)) (but_last n b)
-accepted b (Squash p) n = before (is_task_of p) b
+accepted b (Squash p) n = before_first (is_task_of p) b
 accepted b (Commit p) n = changed (is_task_of p) as_committed b
 accepted b (Replace p a) n = changed (is_task_of p) (with_access (replaced a)) b
 

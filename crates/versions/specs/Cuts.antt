@@ -1,20 +1,10 @@
 -- A list cut at its first element that passes a test, and tests of the numbers below n.
 use Rattle.std.specs.Prelude.{ℕ, zero, suc, ◌-◌, Bool, false, cond, ◌||◌, List, [], ◌∷◌, length, take}
 
--- the elements before the first that passes
-abbrev pub before : {A : Type 0} → (A → Bool) → List A → List A
-before f [] = []
-before f (x ∷ xs) = cond (f x) [] (x ∷ before f xs)
-
--- those up to it, with it
+-- the elements up to the first that passes, with it
 abbrev pub up_to : {A : Type 0} → (A → Bool) → List A → List A
 up_to f [] = []
 up_to f (x ∷ xs) = cond (f x) (x ∷ []) (x ∷ up_to f xs)
-
--- those past it
-abbrev pub past : {A : Type 0} → (A → Bool) → List A → List A
-past f [] = []
-past f (x ∷ xs) = cond (f x) xs (past f xs)
 
 -- the list with the first that passes changed by g
 abbrev pub changed : {A : Type 0} → (A → Bool) → (A → A) → List A → List A

@@ -1,11 +1,10 @@
 -- The order of the active tasks as a list of processors, and the place of one in it.
-use Rattle.std.specs.Prelude.{◌≡◌, ℕ, suc, ◌-◌, ◌<◌, ◌≤◌, cond, ◌||◌, List, [], ◌∷◌, length, Some, None, Option, ◌==◌, nat_lt, get_or}
-use Rattle.std.specs.Option.{option_map}
+use Rattle.std.specs.Prelude.{◌≡◌, ℕ, ◌-◌, ◌<◌, ◌≤◌, cond, ◌||◌, List, [], ◌∷◌, length, Some, None, Option, ◌==◌, nat_lt, get_or}
+use Rattle.std.specs.List.{position}
 
 -- the place of p, from 0
 abbrev pub place_in : List ℕ → ℕ → Option ℕ
-place_in [] p = None
-place_in (q ∷ qs) p = cond (q == p) (Some 0) (option_map suc (place_in qs p))
+place_in ps p = position (λ q. q == p) ps
 
 -- no processor twice, and none but 0 to 3
 abbrev pub Apart : List ℕ → Type 0

@@ -1,6 +1,6 @@
 -- The plain store of versions: what every version store does.
 use Rattle.std.specs.Prelude.{ℕ, suc, ◌%◌, ◌<◌, Bool, false, cond, not, ◌&&◌, List, [], ◌∷◌, ◌++◌, map, length, Some, None, Ok, Err, Option, Result, ◌==◌, nat_le, nat_lt, slice_index, slice_set}
-use Rattle.std.specs.List.{range_with_len, list_any}
+use Rattle.std.specs.List.{range_with_len, list_any, before_first, after_first}
 use Rattle.memory.specs.Client.{count_below}
 use Rattle.versions.specs.declared.refusal.Refusal.{Refusal}
 use Rattle.versions.specs.declared.refusal.Refusal.TheVariants.{NoProcessor, TaskActive, NoTask, NoAddress, ClassTaken, NotHead, IsHead, NotHeld}
@@ -8,7 +8,7 @@ use Rattle.versions.specs.declared.turn.Turn.{Turn}
 use Rattle.versions.specs.declared.turn.Turn.TheVariants.{Start, Load, Store, Squash, Commit, Replace}
 use Rattle.versions.specs.Refusals.{refusal_number}
 use Rattle.versions.specs.Conditions.{first_of, answer_unless}
-use Rattle.versions.specs.Cuts.{before, up_to, past, changed, but_last, any_below}
+use Rattle.versions.specs.Cuts.{up_to, changed, but_last, any_below}
 use Rattle.versions.specs.declared.version.Version.{Version}
 use Rattle.versions.specs.Versions.{no_version, is_own, is_held, with_load, with_store, laid_over, seen_by, squashed_by}
 
@@ -101,8 +101,8 @@ refusal_of s t = first_of (conditions s t)
 abbrev pub given : Plain → Turn → ℕ
 given s (Start p) = length s.order
 given s (Load p a) = seen_by (column a (up_to (is_on p) s.order)) (slice_index s.memory a)
-given s (Store p a w) = squashed_by (column a (past (is_on p) s.order))
-given s (Squash p) = suc (length (past (is_on p) s.order))
+given s (Store p a w) = squashed_by (column a (after_first (is_on p) s.order))
+given s (Squash p) = suc (length (after_first (is_on p) s.order))
 given s (Commit p) = count_below (λ a. is_own ((task_on p s.order).at a)) (length s.memory)
 given s (Replace p a) = cond (is_own ((task_on p s.order).at a)) 1 0
 
@@ -113,11 +113,11 @@ moved s (Load p a) = record { memory = s.memory; order = changed (is_on p) (chan
 moved s (Store p a w) =
     record {
       memory = s.memory;
-      order = changed (is_on p) (changed_at a (with_store w)) (but_last (squashed_by (column a (past (is_on p) s.order))) s.order);
+      order = changed (is_on p) (changed_at a (with_store w)) (but_last (squashed_by (column a (after_first (is_on p) s.order))) s.order);
     }
-moved s (Squash p) = record { memory = s.memory; order = before (is_on p) s.order }
+moved s (Squash p) = record { memory = s.memory; order = before_first (is_on p) s.order }
 moved s (Commit p) =
-    record { memory = laid_over_all (task_on p s.order).at s.memory; order = before (is_on p) s.order ++ past (is_on p) s.order }
+    record { memory = laid_over_all (task_on p s.order).at s.memory; order = before_first (is_on p) s.order ++ after_first (is_on p) s.order }
 moved s (Replace p a) =
     record {
       memory = written_to ((task_on p s.order).at a).own a s.memory;

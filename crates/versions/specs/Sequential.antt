@@ -1,9 +1,9 @@
 -- Sequential reading: what survives reads as if the tasks had run one after another.
 use Rattle.std.specs.Prelude.{◌≡◌, ℕ, suc, ◌<◌, ◌≤◌, false, ◌⊎◌, List, [], ◌∷◌, ◌++◌, map, length, take, Ok, Result, slice_index}
+use Rattle.std.specs.List.{after_first}
 use Rattle.versions.specs.declared.refusal.Refusal.{Refusal}
 use Rattle.versions.specs.declared.turn.Turn.{Turn}
 use Rattle.versions.specs.declared.turn.Turn.TheVariants.{Store}
-use Rattle.versions.specs.Cuts.{past}
 use Rattle.versions.specs.Versions.{seen_by}
 use Rattle.versions.specs.Plain.{Plain, opened, memory_words, column, answer_of, state_after}
 use Rattle.versions.specs.Book.{Access, loaded, Entry, Book, is_task_of, fed_one, all_accesses, committed_of, active_of, first_accesses, after_run, stores_to, replaced_stores}
@@ -38,7 +38,7 @@ pub record Sequential (ws : List ℕ) (es : List Event) (vs : List ℕ) : Type 0
   pub reads : (xs : List Access) (a v : ℕ) (ys : List Access) → all_accesses (book_of es) ≡ xs ++ loaded a v ∷ ys → v ≡ after_run xs a (slice_index ws a)
   -- every accepted store squashed exactly the tasks that had to go
   pub squashes : (before : List Event) (p a w n : ℕ) (rest : List Event) → es ≡ before ++ record { turn = Store p a w; answer = Ok n } ∷ rest
-      → ExactSquash a (past (is_task_of p) (book_of before)) n
+      → ExactSquash a (after_first (is_task_of p) (book_of before)) n
   -- the memory's words are those that the committed tasks' run leaves, and then the head's replaced stores
   pub size : length vs ≡ length ws
   pub words : (a : ℕ) → a < length ws

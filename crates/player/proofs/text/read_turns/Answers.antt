@@ -1,7 +1,7 @@
 use Rattle.std.proofs.Common.{◌≡◌, ℕ, ◌+◌, ◌-◌, length, Some, Err, sym, ap, ◌∙◌, subst, arith}
 use Rattle.player.specs.Left.{after, line_turn}
 use Rattle.player.specs.Lists.{content, free, room, row_of}
-use Rattle.player.specs.Splits.{split, line_end}
+use Rattle.player.specs.Splits.{text_lines, line_end}
 use Rattle.player.specs.Text.{lines_read, text_read}
 use Rattle.player.specs.Tokens.{word_seen, part_length}
 use Rattle.player.proofs.Exact.{text-exact}
@@ -61,7 +61,7 @@ loop-first-preserved c =
     let d = line-goes-on at t'.at (room l) s t'.rest.now (content l₀) (row_of l₀) (content l) (row_of l) (content l') (row_of l')
     all (line_turn (word_seen first.token) left) v.0 (line-turn s left (word_seen first.token) v.1 e.text)
     f.answer f.after f.row rest place c.loop-first.invariant.0 in (
-      subst (λ (k : ℕ). Begun (content l₀) (row_of l₀) all (content l') (row_of l') (lines_read t'.at (k - length (content l')) (split line_end t'.rest.now))) (sym f.room) d,
+      subst (λ (k : ℕ). Begun (content l₀) (row_of l₀) all (content l') (row_of l') (lines_read t'.at (k - length (content l')) (text_lines t'.rest.now))) (sym f.room) d,
       f.room ∙ c.loop-first.invariant.1,
     )
 

@@ -12,9 +12,10 @@ use Rattle.versions.proofs.Ordering.{few, apart-take}
 use Rattle.versions.proofs.Serving.{hit-is, kept-version}
 use Rattle.versions.proofs.Tabling.{placed, place-take, squashes-le}
 use Rattle.snooping.specs.declared.line.Line.{Line}
+use Rattle.snooping.specs.declared.state.LineEvent.TheVariants.{Store as StoreLine}
 use Rattle.snooping.specs.Caches.{lines_in, processors_of, table_of}
 use Rattle.snooping.specs.Grid.{Linked, with_line, relinked}
-use Rattle.snooping.specs.Lines.{version_at, with_stored}
+use Rattle.snooping.specs.Lines.{version_at, with_taken}
 use Rattle.snooping.specs.Report.{reached, powers}
 use Rattle.snooping.proofs.Holders.{same-column, take-place}
 use Rattle.snooping.proofs.Keeping.{laid-linked}
@@ -155,5 +156,5 @@ returns g c =
     c.invalidated-mask.result mid (processors_of c.take_and_link.new.self) c.take_and_link.new.self.list c.bus_write-self.result
     (at.1 ∙ ap (λ (n : ℕ). access_place n (processors_of s.caches) (table_of s.caches) c.in_ok-p.p c.args.a) c.size.ensures)
     test (hit-is table ps k c.args.a n (hit-at (table_of s.caches) ps c.in_ok-p.k c.args.a c.squashed-hit.result c.sharers-sharers.result.address c.sharers-sharers.ensures.address c.squashed-hit.ensures)) mask cut.0 cut.1 (c.take_and_link.ensures.order ∙ c.cut_last.ensures.order)
-    (c.take_and_link.ensures.lines ∙ ap (λ (l : List ℕ). relinked l c.args.a (with_line mid c.in_ok-p.p (c.args.a % 16) (with_stored (mid c.in_ok-p.p (c.args.a % 16)) c.args.a c.args.w))) c.cut_last.ensures.order)
+    (c.take_and_link.ensures.lines ∙ ap (λ (l : List ℕ). relinked l c.args.a (with_line mid c.in_ok-p.p (c.args.a % 16) (with_taken StoreLine (mid c.in_ok-p.p (c.args.a % 16)) c.args.a c.args.w))) c.cut_last.ensures.order)
     c.take_and_link.new.self.wide c.bus_write-self.ensures) c.requires.memory refl
