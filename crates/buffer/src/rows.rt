@@ -101,20 +101,23 @@ impl Set {
         }
     }
 
-    // The sharers of a among the tasks of an order. Its row is looked for once, and then asked for each task. (To ask for all four places, those
-    // past the last task too, would need no branch, and was measured to be slower.)
+    // The sharers of a among the tasks of an order. Its row is looked for once, and then asked for each of four processors, however many tasks
+    // there are, as the number of rounds can't be foreseen else. It is always copied in, here and below: who asks has looked for the row already, and
+    // LLVM sees that it need not be looked for again.
+    #[inline(always)]
     fn sharers(&self, order: &Order, a: u32) -> Sharers
         requires { GoodSet (a % 16) self.now }
         ensures address { shared_address result ≡ a }
         ensures tasks { SharersOf (map (λ q. in_rows self.now q a) order.now) result }
     {
         let mut sharers = Sharers::new(a);
-        let processors = order.processors();
+        let active = order.len();
         if let Some(j) = self.address_place(a) {
             let row = &self.rows[j];
-            for (k, p) in processors.iter().enumerate() {
+            for (k, p) in order.slots().iter().enumerate() {
                 sharers.add(k, row.version(*p).share());
             }
+            sharers.keep(active);
         }
         sharers
     }
@@ -234,6 +237,7 @@ impl Rows {
     }
 
     // The sharers of a among the tasks of an order.
+    #[inline(always)]
     pub fn sharers(&self, order: &Order, a: u32) -> Sharers
         ensures address { shared_address result ≡ a }
         ensures tasks { SharersIn order.now (table_in self.now) result }

@@ -169,6 +169,7 @@ impl TaskTable for Tasks {
     }
 
     // In place of the trait's, which looks for the row of the address anew for each task.
+    #[inline(always)]
     fn sharers(&self, a: u32) -> Sharers {
         self.rows.sharers(&self.order, a)
     }

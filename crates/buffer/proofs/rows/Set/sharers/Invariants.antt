@@ -5,4 +5,4 @@ use Rattle.buffer.proofs.rows.Set.sharers.Given as goal
 
 -- the tasks so far are in the sharers
 abbrev pub invariant-loop-k : goal.invariant-loop-k
-invariant-loop-k l = (l.sharers.address ≡ l.fn.a) × SharersOf (map (in_row l.row) (take l.k l.processors)) l.sharers
+invariant-loop-k l = (l.sharers.address ≡ l.fn.a) × SharersOf (map (in_row l.row) (take l.k l.p-items)) l.sharers
