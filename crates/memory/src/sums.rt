@@ -25,11 +25,13 @@ pub fn checksum<M: Memory>(memory: &mut M) -> Result<u32, MemoryError>
     Ok(sum)
 }
 
-// The checksum after one more word.
+// The checksum after one more word. (By `fold` over the four bytes a checksum took half as long again, and over their array three times
+// as long.)
 fn add_word(sum: u32, w: u32) -> u32
     ensures { result ≡ with_word_bytes sum w }
 {
-    w.to_le_bytes().into_iter().fold(sum, add_byte)
+    let [b0, b1, b2, b3] = w.to_le_bytes();
+    add_byte(add_byte(add_byte(add_byte(sum, b0), b1), b2), b3)
 }
 
 // The checksum after one more byte.
