@@ -1,5 +1,5 @@
 -- The sets of classes beside the caches: a line outside of its processor's set stays blank.
-use Rattle.std.proofs.Common.{◌≡◌, ℕ, ◌<◌, ◌≤◌, Bool, true, false, cond, ◌&&◌, eqb, List, map, get_or, set, is_some, Some, None, Option, ⊎_elim, sym, refl, ap, ◌∙◌, arith}
+use Rattle.std.proofs.Common.{◌≡◌, ℕ, ◌<◌, ◌≤◌, Bool, true, false, cond, ◌&&◌, ◌||◌, eqb, List, map, get_or, set, is_some, Some, None, Option, ⊎_elim, sym, refl, ap, ◌∙◌, arith}
 use Rattle.std.proofs.lemmas.List.{length-set}
 use Rattle.std.proofs.lemmas.Bool.{eqb-true, cases_lt, true≢false}
 use Rattle.versions.specs.ClassSets.{has, no_class}
@@ -43,6 +43,20 @@ module _ (cs : List Cache) (sets : List ClassSet) (covered : Covered cs sets) (w
           → cond t (f (line_in cs q c)) (line_in cs q c) ≡ blank
       go q c low l true e out = ends (line_in cs q c)
       go q c low l false e out = covered.outside q c low l (ap (λ (y : ClassSet). has y c) (sym e) ∙ out)
+
+  -- line c of p's cache changed, and put into the set
+  pub covered-taken : (c : ℕ) (y : Line) (s : ClassSet) → c < 16 → x.lines ≡ set (get_or cs p no_cache).lines c y → ((d : ℕ) → has s d ≡ (eqb d c || has (get_or sets p no_class) d)) → Covered (set cs p x) (set sets p s)
+  covered-taken c y s low_c is put = record {
+    long = length-set sets p s ∙ covered.long;
+    outside = λ q d low l out. ap (λ (ls : ℕ → ℕ → Line). ls q d) (line-changed cs p x wide h c y low_c is) ∙ go q d low l (eqb q p) (eqb d c) refl refl (at_set sets p s no_class (omega (arith, covered.long)) q) out;
+  }
+    where
+      go : (q d : ℕ) → q < 4 → d < 16 → (t u : Bool) → eqb q p ≡ t → eqb d c ≡ u → get_or (set sets p s) q no_class ≡ cond t s (get_or sets q no_class) → has (get_or (set sets p s) q no_class) d ≡ false
+          → cond (t && u) y (line_in cs q d) ≡ blank
+      go q d low l true true t u e out = absurd (true≢false (sym (ap (λ (z : ClassSet). has z d) e ∙ (put d ∙ ap (λ (b : Bool). b || has (get_or sets p no_class) d) u)) ∙ out))
+      go q d low l true false t u e out = covered.outside q d low l
+          (ap (λ (r : ℕ). has (get_or sets r no_class) d) (eqb-true q p t) ∙ (ap (λ (b : Bool). b || has (get_or sets p no_class) d) (sym u) ∙ (sym (put d) ∙ (ap (λ (z : ClassSet). has z d) (sym e) ∙ out))))
+      go q d low l false u t v e out = covered.outside q d low l (ap (λ (z : ClassSet). has z d) (sym e) ∙ out)
 
   -- line c of p's cache changed, which is in the set already or becomes blank
   pub covered-line : (c : ℕ) (y : Line) → c < 16 → x.lines ≡ set (get_or cs p no_cache).lines c y → (has (get_or sets p no_class) c ≡ false → y ≡ blank) → Covered (set cs p x) sets

@@ -35,6 +35,15 @@ module _ {B : Type 0} (F : Line → B) (blind : (x : Line) (n : Option ℕ) → 
 pub relinked-table : (ps : List ℕ) (a : ℕ) (ls : LineTable) → table_by (relinked ps a ls) ≡ table_by ls
 relinked-table ps a ls = fun_ext (λ q. fun_ext (λ b. relinked-same (λ x. version_at x b) (λ x n. refl) ps a ls q (b % 16)))
 
+-- tags stay in their lines where one takes an address of its own
+pub tagged-taken : (ls : LineTable) (p a : ℕ) (y : Line) → y.tag ≡ a → Tagged ls → Tagged (with_line ls p (a % 16) y)
+tagged-taken ls p a y tag tagged = λ q d. go q d (eqb q p) (eqb d (a % 16)) refl
+  where
+    go : (q d : ℕ) (t u : Bool) → eqb d (a % 16) ≡ u → is_held (version_in (cond (t && u) y (ls q d))) ≡ true → (cond (t && u) y (ls q d)).tag % 16 ≡ d
+    go q d true true e held = ap (λ (b : ℕ). b % 16) tag ∙ sym (eqb-true d (a % 16) e)
+    go q d true false e held = tagged q d held
+    go q d false u e held = tagged q d held
+
 -- tags stay in their lines where one is linked
 pub tagged-link : (ls : LineTable) (p c : ℕ) (n : Option ℕ) → Tagged ls → Tagged (with_line ls p c (with_next (ls p c) n))
 tagged-link ls p c n tagged = λ q d held. link-same (λ x. x.tag % 16) (λ x n. refl) ls p c n q d ∙ tagged q d (sym (link-same (λ x. is_held (version_in x)) (λ x n. refl) ls p c n q d) ∙ held)

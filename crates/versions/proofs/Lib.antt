@@ -17,3 +17,4 @@ pub mod Serving
 pub mod Sharing
 pub mod Mapping
 pub mod Placing
+pub mod Slots

@@ -1,5 +1,5 @@
 -- The table of places beside an order.
-use Rattle.std.proofs.Common.{◌≡◌, ℕ, zero, suc, ◌-◌, ◌<◌, ◌≤◌, Bool, true, false, cond, ◌||◌, eqb, ltb, List, [], ◌∷◌, ◌++◌, map, length, get_or, take, drop, set, Some, None, Option, sym, refl, ap, ◌∙◌, subst, ◌⊎◌, inl, inr, ⊎_elim, arith}
+use Rattle.std.proofs.Common.{◌≡◌, ℕ, zero, suc, ◌+◌, ◌-◌, ◌<◌, ◌≤◌, Bool, true, false, cond, ◌||◌, eqb, ltb, List, [], ◌∷◌, ◌++◌, map, length, get_or, take, drop, set, Some, None, Option, sym, refl, ap, ◌∙◌, subst, ◌⊎◌, inl, inr, ⊎_elim, arith, add-one}
 use Rattle.std.specs.Option.{option_map}
 use Rattle.std.proofs.lemmas.Bool.{ne_eqb, eq-eqb, eqb-true, cond-true, cond-false, lt-ltb, le-ltb, cases_lt, cases_eq}
 use Rattle.std.proofs.lemmas.List.{append-nil, drop_all, get_or-map, get_or-set_other, length-map, length-set, take_all}
@@ -141,6 +141,16 @@ placing-drop (r ∷ ps) places a x some = mapped (r ∷ ps) places moved_down ps
             let y = is_some (suc j) e in
             let less : suc j < 4 = omega (arith, y.0, y.1) in
             ap (λ (z : ℕ). found (moved_down z)) y.0 ∙ (ap found (moved-some j less) ∙ (found-some j (omega (arith, less)) ∙ sym o-is))
+
+-- a row of which one more is changed
+pub one-changed : (f : ℕ → ℕ) (init xs : List ℕ) (i x d : ℕ) → xs ≡ map f (take i init) ++ drop i init → i < length init → x ≡ f (get_or xs i d) → set xs i x ≡ map f (take (i + 1) init) ++ drop (i + 1) init
+one-changed f init xs i x d is within new =
+    rw add-one (ap (λ (l : List ℕ). set l i x) is ∙ go i init within (new ∙ ap (λ (l : List ℕ). f (get_or l i d)) is))
+  where
+    go : (i : ℕ) (l : List ℕ) → i < length l → x ≡ f (get_or (map f (take i l) ++ drop i l) i d) → set (map f (take i l) ++ drop i l) i x ≡ map f (take (suc i) l) ++ drop (suc i) l
+    go i [] h e = absurd (omega (arith, h))
+    go zero (a ∷ l) h e = ap (λ (y : ℕ). y ∷ l) e
+    go (suc i) (a ∷ l) h e = ap (λ (r : List ℕ). f a ∷ r) (go i l (omega (arith, h)) e)
 
 -- a row of which all are changed
 pub all-changed : (f : ℕ → ℕ) (init xs : List ℕ) (i : ℕ) → xs ≡ map f (take i init) ++ drop i init → length init ≤ i → xs ≡ map f init

@@ -5,6 +5,7 @@ pub mod Conditions
 pub mod Processors
 pub mod ClassSets
 pub mod Orders
+pub mod Copies
 pub mod Versions
 pub mod Plain
 pub mod Tables

@@ -26,7 +26,7 @@ fn moved_down(place: usize) -> usize
     }
 }
 
-#[derive(Clone, Drop)]
+#[derive(Clone, Copy)]
 pub struct Order {
     list: ProcessorList,
     // The place of each processor, or 4. Each turn asks for one, and a search of the list would cost a tenth of a turn.
@@ -34,17 +34,22 @@ pub struct Order {
 }
 
 // A clause sees an order as its processors. That they are apart, other crates do not see of the type: the calls that they use
-// say it.
+// say it. The list alone gives the places back, so that an order can be copied.
 impl Model for Order {
     ghost use Rattle.std.specs.Prelude.{ℕ, List};
 
     ghost Value = { List ℕ };
 
     ghost use Rattle.versions.specs.Orders.{Apart, Placing};
+    ghost use Rattle.versions.specs.Copies.{places_of, places_back};
 
     ghost view = { λ o. o.list };
 
     ghost invariant = { λ o. Apart o.list × Placing o.list o.places };
+
+    ghost inverse = { λ ps. record { list = ps; places = places_of ps } };
+
+    ghost inverse_ok = { λ o h i. record { list = o.list; places = places_back o.list o.places h.1 i } };
 }
 
 impl Order {

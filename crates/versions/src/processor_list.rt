@@ -1,11 +1,18 @@
-// At most four processors, in an array of four; those past the end are any. So a loop may go over all four: where it ends is then no
-// matter of how many there are, which can't be foreseen.
-ghost use Rattle.std.specs.Prelude.{◌≡◌, ℕ, ◌<◌, ◌≤◌, [], ◌∷◌, ◌++◌, length, take, drop};
+// At most four processors, in an array of four. So a loop may go over all four: where it ends is then no matter of how many there are,
+// which can't be foreseen. The slots past the end hold the default, so that the list alone gives the fields back, and can be copied.
+ghost use Rattle.std.specs.Prelude.{◌≡◌, ℕ, ◌<◌, ◌≤◌, cond, [], ◌∷◌, ◌++◌, length, take, drop};
 
 use crate::processor::Processor;
 use std::marker::Model;
 
-#[derive(Clone, Drop)]
+// A processor where it is kept, or the default.
+fn kept(keep: bool, p: Processor) -> Processor
+    ensures { result ≡ cond keep p 0 }
+{
+    if keep { p } else { Processor::default() }
+}
+
+#[derive(Clone, Copy)]
 pub struct ProcessorList {
     row: [Processor; 4],
     len: usize,
@@ -13,13 +20,18 @@ pub struct ProcessorList {
 
 // A clause sees the list.
 impl Model for ProcessorList {
-    ghost use Rattle.std.specs.Prelude.{◌≡◌, ℕ, ◌≤◌, List, length, take};
+    ghost use Rattle.std.specs.Prelude.{◌≡◌, ℕ, ◌-◌, ◌≤◌, List, length, take, drop, replicate};
+    ghost use Rattle.versions.specs.Copies.{slots_of, row_back, len_back};
 
     ghost Value = { List ℕ };
 
     ghost view = { λ l. take l.len l.row };
 
-    ghost invariant = { λ l. (l.len ≤ 4) × (length l.row ≡ 4) };
+    ghost invariant = { λ l. (l.len ≤ 4) × (length l.row ≡ 4) × (drop l.len l.row ≡ replicate (4 - l.len) 0) };
+
+    ghost inverse = { λ ps. record { row = slots_of ps; len = length ps } };
+
+    ghost inverse_ok = { λ l h i. record { row = row_back l.row l.len h.0 h.1 h.2 i; len = len_back l.row l.len h.0 h.1 i } };
 }
 
 impl ProcessorList {
@@ -70,6 +82,9 @@ impl ProcessorList {
         requires { k ≤ length self.old }
         ensures { self.new ≡ take k self.old }
     {
+        for (i, slot) in self.row.iter_mut().enumerate() {
+            *slot = kept(i < k, *slot);
+        }
         self.len = k;
     }
 
@@ -81,6 +96,7 @@ impl ProcessorList {
         self.row[0] = self.row[1];
         self.row[1] = self.row[2];
         self.row[2] = self.row[3];
+        self.row[3] = Processor::default();
         self.len -= 1;
     }
 }

@@ -1,8 +1,14 @@
-use Rattle.std.proofs.Common.{◌≡◌, ◌≤◌, List, ℕ, length, take, map, sym, subst, arith}
+use Rattle.std.proofs.Common.{◌≡◌, ◌<◌, ◌≤◌, List, ℕ, length, take, map, sym, subst, arith}
 use Rattle.versions.specs.Orders.{Apart, Placing, kept_below}
 use Rattle.versions.proofs.Ordering.{apart-take}
-use Rattle.versions.proofs.Placing.{placing-cut, all-changed}
+use Rattle.versions.proofs.Placing.{placing-cut, one-changed, all-changed}
 use Rattle.versions.proofs.order.Order.cut.Goals as goal
+
+pub loop-place-preserved : goal.loop-place-preserved
+loop-place-preserved c =
+    let places = c.self.inside.places in
+    let within : c.loop-place.place-index < length places = omega (arith, c.self.told, c.loop-place-test.true) in
+    one-changed (kept_below c.args.k) places c.loop-place.place-items c.loop-place.place-index c.kept_below.result 0 c.loop-place.invariant within c.kept_below.ensures
 
 pub invariant_of-self : goal.invariant_of-self
 invariant_of-self c =

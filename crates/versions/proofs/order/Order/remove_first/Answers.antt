@@ -1,8 +1,14 @@
 use Rattle.std.proofs.Common.{◌≡◌, ◌<◌, ◌≤◌, List, ℕ, length, drop, map, sym, subst, arith}
 use Rattle.versions.specs.Orders.{Apart, Placing, moved_down}
 use Rattle.versions.proofs.Ordering.{apart-drop}
-use Rattle.versions.proofs.Placing.{placing-drop, all-changed}
+use Rattle.versions.proofs.Placing.{placing-drop, one-changed, all-changed}
 use Rattle.versions.proofs.order.Order.remove_first.Goals as goal
+
+pub loop-place-preserved : goal.loop-place-preserved
+loop-place-preserved c =
+    let places = c.self.inside.places in
+    let within : c.loop-place.place-index < length places = omega (arith, c.self.told, c.loop-place-test.true) in
+    one-changed moved_down places c.loop-place.place-items c.loop-place.place-index c.moved_down.result 0 c.loop-place.invariant within c.moved_down.ensures
 
 pub invariant_of-self : goal.invariant_of-self
 invariant_of-self c =
