@@ -12,15 +12,34 @@ use std::io::{ErrorKind, Read};
 #[cfg(test)]
 mod tests;
 
-// The first bytes of a file, until it ends or there are `most`. A missing file is empty. What a file holds, and whether it is
-// there, no contract can say: the tests below do.
-pub fn read_start<R: Files + AllocGlobal>(rt: &R, path: &str, most: usize) -> io::Result<Vec<u8>>
+// Reads a file from its beginning until it ends or the buffer is full, and gives the number of bytes. A missing file is
+// empty. What a file holds, and whether it is there, no contract can say: the tests below do.
+pub fn read_start<R: Files>(rt: &R, path: &str, buffer: &mut [u8]) -> io::Result<usize>
+    ensures within { IfOk result (λ n. n ≤ length buffer.old) }
+    ensures size { length buffer.new ≡ length buffer.old }
+{
+    match open_if_there(rt, path)? {
+        Some(mut file) => fill(&mut file, buffer),
+        None => Ok(0),
+    }
+}
+
+// The first bytes of a file, until it ends or there are `most`, where no row is lent for them. A missing file is empty.
+pub fn first_bytes<R: Files + AllocGlobal>(rt: &R, path: &str, most: usize) -> io::Result<Vec<u8>>
     ensures { IfOk result (λ bytes. vec_len bytes ≤ most) }
 {
+    match open_if_there(rt, path)? {
+        Some(mut file) => take_most(rt.alloc(), &mut file, most),
+        None => Ok(Vec::new(rt.alloc())),
+    }
+}
+
+// The file of a path, if there is one. That it can't be opened for another reason is an error.
+fn open_if_there<R: Files>(rt: &R, path: &str) -> io::Result<Option<R::File>> {
     match File::open(rt, path) {
-        Ok(mut file) => take_most(rt.alloc(), &mut file, most),
+        Ok(file) => Ok(Some(file)),
         Err(e) => match e.kind() {
-            ErrorKind::NotFound => Ok(Vec::new(rt.alloc())),
+            ErrorKind::NotFound => Ok(None),
             _ => Err(e),
         },
     }

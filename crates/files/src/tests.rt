@@ -1,10 +1,18 @@
 // What no contract says of files and folders, and two runs over sources whose bytes are known.
-use crate::{fill, read_start, take_most};
+use crate::{fill, first_bytes, read_start, take_most};
 use std::test::Fail;
 
 #[test]
 fn a_missing_file_is_empty(rt: HostRuntime) -> Result<(), Fail> {
-    let bytes = read_start(&rt, "there-is-no-such-file", 4)?;
+    let mut row = [7u8; 4];
+    assert_eq!(rt; read_start(&rt, "there-is-no-such-file", &mut row)?, 0);
+    assert_eq!(rt; row, [7, 7, 7, 7]);
+    Ok(())
+}
+
+#[test]
+fn a_missing_file_has_no_first_bytes(rt: HostRuntime) -> Result<(), Fail> {
+    let bytes = first_bytes(&rt, "there-is-no-such-file", 4)?;
     assert_eq!(rt; bytes.len(), 0);
     Ok(())
 }
@@ -34,11 +42,13 @@ fn no_more_bytes_are_taken_than_asked_for(rt: HostRuntime) -> Result<(), Fail> {
 // A folder can be opened but not read, and a name of 300 bytes can't be opened: neither is taken for a missing file.
 #[test]
 fn another_error_is_no_missing_file(rt: HostRuntime) -> Result<(), Fail> {
-    assert!(rt; read_start(&rt, ".", 4).is_err());
+    assert!(rt; first_bytes(&rt, ".", 4).is_err());
+    assert!(rt; read_start(&rt, ".", &mut [7; 4]).is_err());
     let mut name = String::new(rt.alloc());
     for _ in 0..300 {
         name.push('a')?;
     }
-    assert!(rt; read_start(&rt, name.as_str(), 4).is_err());
+    assert!(rt; first_bytes(&rt, name.as_str(), 4).is_err());
+    assert!(rt; read_start(&rt, name.as_str(), &mut [7; 4]).is_err());
     Ok(())
 }

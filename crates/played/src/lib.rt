@@ -5,8 +5,8 @@ ghost use Rattle.std.specs.Prelude.{◌≡◌, ℕ, ◌≤◌, List, length, IfO
 ghost use Rattle.player.specs.Capacity.{most_bytes};
 ghost use Rattle.player.specs.Listings.{listing_played};
 
-use files::read_start;
-use player::{Input, Lists, MOST_BYTES, MOST_TURNS, RowList, listing, play_on, words_of};
+use files::first_bytes;
+use player::{Input, MOST_BYTES, MOST_TURNS, RowList, listing, play_over, words_of};
 use std::alloc::{AllocError, Global};
 use std::fs::Files;
 use stores::{Turn, VersionStore};
@@ -22,8 +22,8 @@ where
     requires { S.Below.Memory.sound memory }
     ensures { IfOk result (λ listing. (image : List ℕ) × (text : List ℕ) × (length image ≤ most_bytes) × (length text ≤ most_bytes) × (string_bytes listing ≡ listing_played (S.Below.Memory.words memory) image text)) }
 {
-    let image = read_start(rt, "image.bin", MOST_BYTES)?;
-    let text = read_start(rt, "turns.txt", MOST_BYTES)?;
+    let image = first_bytes(rt, "image.bin", MOST_BYTES)?;
+    let text = first_bytes(rt, "turns.txt", MOST_BYTES)?;
     let input = Input {
         image: image.as_slice(),
         text: text.as_slice(),
@@ -44,12 +44,14 @@ where
 {
     let mut turn_row = vec![in heap; Turn::Start { p: 0 }; MOST_TURNS]?;
     let mut answer_row = vec![in heap; Ok(0); MOST_TURNS]?;
-    let mut lists = Lists {
-        turns: RowList::new(turn_row.as_mut_slice()),
-        answers: RowList::new(answer_row.as_mut_slice()),
-    };
-    let (mut memory, outcome) = play_on::<S>(memory, input, &mut lists);
+    let mut turns = RowList::new(turn_row.as_mut_slice());
+    let mut answers = RowList::new(answer_row.as_mut_slice());
+    let Input { image, text } = input;
+    let (mut memory, outcome) = play_over::<S>(memory, image, text, &mut turns, &mut answers);
+    // The turns are played: their row is given back before the words take one.
+    drop(turns);
+    drop(turn_row);
     let words = words_of(heap, &mut memory)?;
-    let text = listing(heap, lists.answers.items(), outcome, words.as_slice())?;
-    Ok(text)
+    let listed = listing(heap, answers.items(), outcome, words.as_slice())?;
+    Ok(listed)
 }

@@ -1,5 +1,6 @@
 -- What an image and a text give before a store is asked: the turns that are read, those that are played, and the fault.
 use Rattle.std.specs.Prelude.{◌≡◌, ℕ, cond, List, [], ◌++◌, length, take, drop, Ok, Err, Result, nat_lt}
+use Rattle.versions.specs.declared.refusal.Refusal.{Refusal}
 use Rattle.versions.specs.declared.turn.Turn.{Turn}
 use Rattle.versions.specs.Plain.{Plain, opened, memory_words, active_tasks, answers_of, state_after_all}
 use Rattle.versions.specs.Sequential.{ReadsOn, paired}
@@ -41,9 +42,17 @@ script_after (Err e) s = record { read = []; played = []; answer = Err (Image e)
 abbrev pub script_of : Lists → List ℕ → Script
 script_of lists text = text_script (free lists.turns) (free lists.answers) text
 
+-- the lists for turns and answers, side by side
+abbrev pub lists_of : RowList Turn → RowList (Result ℕ Refusal) → Lists
+lists_of turns answers = record { turns = turns; answers = answers }
+
 -- an image over the words ws, and a text
+abbrev pub script_over : List ℕ → List ℕ → List ℕ → Lists → Script
+script_over ws image text lists = script_after (load_answer (length ws) image) (script_of lists text)
+
+-- the same, with image and text side by side
 abbrev pub script_in : List ℕ → Input → Lists → Script
-script_in ws input lists = script_after (load_answer (length ws) input.image.now) (script_of lists input.text.now)
+script_in ws input lists = script_over ws input.image.now input.text.now lists
 
 -- what is told in the end: the fault, or the number of active tasks
 abbrev pub told : Result (Unit {0}) PlayerFault → ℕ → Result ℕ PlayerFault
@@ -70,5 +79,9 @@ pub record Performed (s : Plain) (k : Script) (l l' : Lists) (r : Result ℕ Pla
   pub sequential : ReadsOn s (paired k.played (drop (length (content l.answers)) (content l'.answers))) (state_after_all s k.played)
 
 -- an image and a text are played over a memory with the words ws
+abbrev pub PlayedFrom : List ℕ → List ℕ → List ℕ → Lists → Lists → Result ℕ PlayerFault → List ℕ → Type 0
+PlayedFrom ws image text l l' r vs = Performed (opened (loaded_words ws image)) (script_over ws image text l) l l' r vs
+
+-- the same, with image and text side by side
 abbrev pub PlayedOver : List ℕ → Input → Lists → Lists → Result ℕ PlayerFault → List ℕ → Type 0
-PlayedOver ws input l l' r vs = Performed (opened (loaded_words ws input.image.now)) (script_in ws input l) l l' r vs
+PlayedOver ws input l l' r vs = PlayedFrom ws input.image.now input.text.now l l' r vs

@@ -21,6 +21,9 @@ pub use lines::{Line, MOST_LINE, answer_line, fault_line, fault_text, tasks_line
 pub use list::RowList;
 pub use loading::Loading;
 pub use output::{Played, listing, words_of};
-pub use play::{Input, Lists, MOST_BYTES, MOST_TURNS, play_both, play_on, play_text};
+pub use play::{
+    Input, Lists, MOST_BYTES, MOST_TURNS, play_both, play_both_on, play_on, play_over, play_text,
+    play_text_on,
+};
 pub use text::read_turns;
 pub use write::{write_turn, write_turns};

@@ -57,7 +57,10 @@ impl fmt::Display for WordLines<'_> {
 
     fn fmt<W: fmt::Write>(&self, f: &mut fmt::Formatter<W>) -> fmt::Result {
         for (a, word) in self.0.iter().enumerate() {
-            f.write_str(word_line(a, *word).as_str())?;
+            // Most words are 0, and have no line.
+            if *word != 0 {
+                f.write_str(word_line(a, *word).as_str())?;
+            }
         }
         Ok(())
     }

@@ -7,7 +7,7 @@ ghost use Rattle.player.specs.declared.fault.PlayerFault.TheVariants.{Image as A
 ghost use Rattle.player.specs.Faults.{ImageFault};
 ghost use Rattle.player.specs.Listings.{AlikeLists, ToldAlike};
 ghost use Rattle.player.specs.Lists.{content, free};
-ghost use Rattle.player.specs.Scripts.{Gained, PlayedOver, places_answer, script_of, told};
+ghost use Rattle.player.specs.Scripts.{Gained, PlayedFrom, PlayedOver, lists_of, places_answer, script_of, text_script, told};
 
 use crate::fault::{ListFault, PlayerFault};
 use crate::list::RowList;
@@ -38,6 +38,29 @@ pub struct Input<'a> {
 
 // Loads an image into a memory and plays a text of turns over it on a version store S: image first, then the whole text, then
 // turn by turn. It gives the memory back, with the number of active tasks or the fault. A refused image changes nothing.
+pub fn play_over<S: VersionStore>(
+    memory: S::Below,
+    image: &[u8],
+    text: &[u8],
+    turns: &mut RowList<Turn>,
+    answers: &mut RowList<Answer>,
+) -> (S::Below, Result<u32, PlayerFault>)
+    requires { S.Below.Memory.sound memory }
+    ensures performed { PlayedFrom (S.Below.Memory.words memory) image.now text.now (lists_of turns.old answers.old) (lists_of turns.new answers.new) result.1 (S.Below.Memory.words result.0) }
+    ensures refused { (fault : ImageFault) → result.1 ≡ Err (AnImage fault) → result.0 ≡ memory }
+    ensures beside { S.Below.Memory.spare result.0 ≡ S.Below.Memory.spare memory }
+    ensures kept { S.Below.Memory.sound result.0 }
+{
+    let mut loading = Loading::new(memory);
+    if let Err(fault) = loading.load(image) {
+        return (loading.close(), Err(PlayerFault::from(fault)));
+    }
+    let mut store = loading.open::<S>();
+    let outcome = play_text(&mut store, text, turns, answers);
+    (store.close(), outcome)
+}
+
+// The same, where image and text, and the two lists, lie side by side.
 pub fn play_on<S: VersionStore>(
     memory: S::Below,
     input: Input,
@@ -49,19 +72,44 @@ pub fn play_on<S: VersionStore>(
     ensures beside { S.Below.Memory.spare result.0 ≡ S.Below.Memory.spare memory }
     ensures kept { S.Below.Memory.sound result.0 }
 {
-    let mut loading = Loading::new(memory);
-    if let Err(fault) = loading.load(input.image) {
-        return (loading.close(), Err(PlayerFault::from(fault)));
-    }
-    let mut store = loading.open::<S>();
-    let outcome = play_text(&mut store, input.text, lists);
-    (store.close(), outcome)
+    play_over::<S>(
+        memory,
+        input.image,
+        input.text,
+        &mut lists.turns,
+        &mut lists.answers,
+    )
 }
 
 // Plays the same text after the same image on a snooping store over one memory and on a central buffer over another.
 // Over memories with equal words, and with lists that hold equal answers and have equal room, both are told the same and
 // have the same answers and words in the end, so that their listings are equal.
 pub fn play_both<M: Memory, N: Memory>(
+    one: M,
+    other: N,
+    image: &[u8],
+    text: &[u8],
+    turns: &mut RowList<Turn>,
+    snooped: &mut RowList<Answer>,
+    again: &mut RowList<Turn>,
+    buffered: &mut RowList<Answer>,
+) -> ((M, Result<u32, PlayerFault>), (N, Result<u32, PlayerFault>))
+    requires one_sound { M.Memory.sound one }
+    requires other_sound { N.Memory.sound other }
+    ensures one { PlayedFrom (M.Memory.words one) image.now text.now (lists_of turns.old snooped.old) (lists_of turns.new snooped.new) result.0.1 (M.Memory.words result.0.0) }
+    ensures other { PlayedFrom (N.Memory.words other) image.now text.now (lists_of again.old buffered.old) (lists_of again.new buffered.new) result.1.1 (N.Memory.words result.1.0) }
+    ensures alike { M.Memory.words one ≡ N.Memory.words other → AlikeLists (lists_of turns.old snooped.old) (lists_of again.old buffered.old) → ToldAlike (lists_of turns.new snooped.new) (lists_of again.new buffered.new) result.0.1 result.1.1 (M.Memory.words result.0.0) (N.Memory.words result.1.0) }
+    ensures refused { ((fault : ImageFault) → result.0.1 ≡ Err (AnImage fault) → result.0.0 ≡ one) × ((fault : ImageFault) → result.1.1 ≡ Err (AnImage fault) → result.1.0 ≡ other) }
+    ensures beside { (M.Memory.spare result.0.0 ≡ M.Memory.spare one) × (N.Memory.spare result.1.0 ≡ N.Memory.spare other) }
+    ensures kept { M.Memory.sound result.0.0 × N.Memory.sound result.1.0 }
+{
+    let snooping = play_over::<SnoopingStore<M>>(one, image, text, turns, snooped);
+    let central = play_over::<CentralBuffer<N>>(other, image, text, again, buffered);
+    (snooping, central)
+}
+
+// The same, where image and text, and each store's two lists, lie side by side.
+pub fn play_both_on<M: Memory, N: Memory>(
     one: M,
     other: N,
     input: Input,
@@ -82,10 +130,32 @@ pub fn play_both<M: Memory, N: Memory>(
     (snooping, central)
 }
 
-// Reads the turns of a text into the list for turns, plays them, and adds each answer to the other list. A text with a fault
-// is not played. Where there is no place for an answer, its turn and all after it are not played. It gives the number of
+// Reads the turns of a text into a list, plays them, and adds each answer to another list. A text with a fault is not
+// played. Where there is no place for an answer, its turn and all after it are not played. It gives the number of
 // active tasks.
 pub fn play_text<S: VersionStore>(
+    store: &mut S,
+    text: &[u8],
+    turns: &mut RowList<Turn>,
+    answers: &mut RowList<Answer>,
+) -> Result<u32, PlayerFault>
+    requires { S.VersionStore.sound store.old }
+    ensures answer { result ≡ told (text_script (free turns.old) (free answers.old) text.now).answer (active_tasks (S.VersionStore.plain store.new)) }
+    ensures turns { Gained turns.old (text_script (free turns.old) (free answers.old) text.now).read turns.new }
+    ensures answers { Gained answers.old (answers_of (S.VersionStore.plain store.old) (text_script (free turns.old) (free answers.old) text.now).played) answers.new }
+    ensures after { S.VersionStore.plain store.new ≡ state_after_all (S.VersionStore.plain store.old) (text_script (free turns.old) (free answers.old) text.now).played }
+    ensures shows { ShowsAll S.VersionStore.plain S.VersionStore.shows store.old (text_script (free turns.old) (free answers.old) text.now).played store.new }
+    ensures sequential { ReadsOn (S.VersionStore.plain store.old) (paired (text_script (free turns.old) (free answers.old) text.now).played (drop (length (content answers.old)) (content answers.new))) (S.VersionStore.plain store.new) }
+    ensures beside { S.VersionStore.spare store.new ≡ S.VersionStore.spare store.old }
+    ensures kept { S.VersionStore.sound store.new }
+{
+    let before = turns.len();
+    read_turns(text, turns)?;
+    play_each(store, &turns.items()[before..], answers)
+}
+
+// The same, where the two lists lie side by side.
+pub fn play_text_on<S: VersionStore>(
     store: &mut S,
     text: &[u8],
     lists: &mut Lists,
@@ -100,9 +170,7 @@ pub fn play_text<S: VersionStore>(
     ensures beside { S.VersionStore.spare store.new ≡ S.VersionStore.spare store.old }
     ensures kept { S.VersionStore.sound store.new }
 {
-    let before = lists.turns.len();
-    read_turns(text, &mut lists.turns)?;
-    play_each(store, &lists.turns.items()[before..], &mut lists.answers)
+    play_text(store, text, &mut lists.turns, &mut lists.answers)
 }
 
 // Plays turns one by one and adds each answer to a list, until there is no turn or no place left. It gives the number of
