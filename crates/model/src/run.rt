@@ -1,5 +1,5 @@
 // Lists of commands, each list a whole run: a store is opened over the words, carries the commands out, and is closed.
-ghost use Rattle.std.specs.Prelude.{◌≡◌, ◌≤◌, ◌++◌, length, drop, Some, None, OnOk, OnErr};
+ghost use Rattle.std.specs.Prelude.{◌≡◌, ◌≤◌, ◌++◌, length, drop, Some, None, Ok};
 ghost use Rattle.memory.specs.Words.{MemorySize};
 ghost use Rattle.memory.specs.Rows.{words_in};
 ghost use Rattle.versions.specs.Plain.{memory_words};
@@ -53,28 +53,26 @@ fn carry_out_all<S: Machine>(store: &mut S, commands: &[Command], replies: &mut 
 
 // The commands on a store over a copy of the words, which are then as the store leaves its memory. (Over the words themselves a
 // contract could not say what they are after the call, as they would be lent for as long as the store's type names.) A library
-// for C allocates nothing: the copy lies in a row of fixed length, which the caller lends. The three other rows stand side by
-// side as C hands them in. That word memory means the same below this store as elsewhere is asked, since a bound does not say it.
+// for C allocates nothing: the copy lies in a row of fixed length, which the caller lends, once the run has passed `check`, so that no
+// refused run fills a row. The three other rows stand side by side as C hands them in. That word memory means the same below this store
+// as elsewhere is asked, since a bound does not say it.
 fn run<'a, S: Machine<Below = WordMemory<'a>>>(
     row: &'a mut [u32; MOST_WORDS],
     words: &mut [u32],
     commands: &[Command],
     replies: &mut [Reply],
-) -> Result<(), RunRefusal>
+)
     requires words { (memory : _) → ⟦<S::Below as Memory>⟧.words memory ≡ words_in memory }
     requires sound { (memory : _) → MemorySize (length (words_in memory)) → ⟦<S::Below as Memory>⟧.sound memory }
-    ensures outcome { result ≡ run_outcome (length words.old) (length commands.now) (length replies.old) }
-    ensures replies { OnOk result (replies.new ≡ replies_to (seen_at S.Machine.first_report words.old) commands.now ++ drop (length commands.now) replies.old) }
-    ensures words { OnOk result (words.new ≡ memory_words (seen_after_all (seen_at S.Machine.first_report words.old) commands.now).plain) }
-    ensures err { OnErr result ((replies.new ≡ replies.old) × (words.new ≡ words.old)) }
+    requires accepted { run_outcome (length words.old) (length commands.now) (length replies.old) ≡ Ok tt }
+    ensures replies { replies.new ≡ replies_to (seen_at S.Machine.first_report words.old) commands.now ++ drop (length commands.now) replies.old }
+    ensures words { words.new ≡ memory_words (seen_after_all (seen_at S.Machine.first_report words.old) commands.now).plain }
 {
-    check(words, commands, replies)?;
     let copy = &mut row[..words.len()];
     copy.copy_from_slice(words);
     let mut store = S::open(WordMemory::open(copy));
     carry_out_all(&mut store, commands, replies);
     words.copy_from_slice(store.close().close());
-    Ok(())
 }
 
 // The commands on a snooping store over a copy of the words, which are then as the store leaves its memory.
@@ -88,8 +86,12 @@ pub extern "C" fn model_snooping(
     ensures replies { replies.new ≡ replies_after result (seen_at (Some quiet) words.old) commands.now replies.old }
     ensures words { words.new ≡ words_after result (seen_at (Some quiet) words.old) commands.now words.old }
 {
-    let mut row = [0; MOST_WORDS];
-    told(run::<SnoopingStore<WordMemory>>(&mut row, words, commands, replies))
+    let outcome = check(words, commands, replies);
+    if outcome.is_ok() {
+        let mut row = [0; MOST_WORDS];
+        run::<SnoopingStore<WordMemory>>(&mut row, words, commands, replies);
+    }
+    told(outcome)
 }
 
 // The commands on a central buffer, which has no lines and no bus to report of.
@@ -103,6 +105,10 @@ pub extern "C" fn model_central(
     ensures replies { replies.new ≡ replies_after result (seen_at None words.old) commands.now replies.old }
     ensures words { words.new ≡ words_after result (seen_at None words.old) commands.now words.old }
 {
-    let mut row = [0; MOST_WORDS];
-    told(run::<CentralBuffer<WordMemory>>(&mut row, words, commands, replies))
+    let outcome = check(words, commands, replies);
+    if outcome.is_ok() {
+        let mut row = [0; MOST_WORDS];
+        run::<CentralBuffer<WordMemory>>(&mut row, words, commands, replies);
+    }
+    told(outcome)
 }
