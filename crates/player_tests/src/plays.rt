@@ -2,9 +2,7 @@
 ghost use Rattle.std.specs.Prelude.{◌≤◌};
 
 use memory::{ByteMemory, Memory, WordMemory};
-use player::{
-    Input, Lists, Played, RowList, listing, play_both, play_both_on, play_on, play_text, words_of,
-};
+use player::{Input, Lists, Played, RowList, listing, play_both_on, play_on, words_of};
 use std::process::Abort;
 use std::test::*;
 use stores::{CentralBuffer, SnoopingStore, Turn, VersionStore};
@@ -170,39 +168,6 @@ fn both_stores_give_one_listing(rt: HostRuntime) -> Result<(), Fail> {
     )?;
     both_play(&rt, &image, "start 0\nstore 0 5\n", "fault text 14 8\n")?;
     both_play(&rt, &image[..12], "start 0\n", "fault image 9 12\n")
-}
-
-// Four lists that do not lie side by side, and then two of them once more, for a second text on a store of its own.
-#[test]
-fn lists_may_be_lent_one_by_one(rt: HostRuntime) -> Result<(), Fail> {
-    let mut rows = [[Turn::Start { p: 0 }; 4]; 2];
-    let [row, other_row] = &mut rows;
-    let mut places = [[Ok(0); 4]; 2];
-    let [place, other_place] = &mut places;
-    let (mut turns, mut again) = (RowList::new(row), RowList::new(other_row));
-    let (mut snooped, mut buffered) = (RowList::new(place), RowList::new(other_place));
-    let mut words = [0; 8];
-    let mut other_words = [0; 8];
-    let ((mut one, snooping), (_, central)) = play_both(
-        WordMemory::open(&mut words),
-        WordMemory::open(&mut other_words),
-        &[0; 4],
-        b"start 2\nstore 2 5 70\ncommit 2\n",
-        &mut turns,
-        &mut snooped,
-        &mut again,
-        &mut buffered,
-    );
-    assert_eq!(rt; (snooping, central), (Ok(0), Ok(0)));
-    assert_eq!(rt; snooped.items(), [Ok(0), Ok(0), Ok(1)].as_slice());
-    assert_eq!(rt; buffered.items(), [Ok(0), Ok(0), Ok(1)].as_slice());
-    assert_eq!(rt; one.read(5), Ok(70));
-    let mut store = CentralBuffer::open(one);
-    let told = play_text(&mut store, b"start 1\n", &mut again, &mut buffered);
-    let _ = store.close();
-    assert_eq!(rt; told, Ok(1));
-    assert_eq!(rt; (again.len(), buffered.len()), (4, 4));
-    Ok(())
 }
 
 // What an image and a text leave over 64 words: how many turns are read and answered, and the word at 5.
