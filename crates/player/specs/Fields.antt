@@ -1,5 +1,5 @@
 -- A field of a line: the number that its bytes write in plain decimal.
-use Rattle.std.specs.Prelude.{ℕ, ◌+◌, ◌-◌, ◌*◌, ◌^◌, min, Bool, false, cond, not, ◌&&◌, List, [], ◌∷◌, Ok, Err, Result, ◌==◌, nat_lt}
+use Rattle.std.specs.Prelude.{ℕ, ◌^◌, Bool, false, cond, not, ◌&&◌, List, [], ◌∷◌, Ok, Err, Result, ◌==◌, nat_lt}
 use Rattle.std.specs.Str.Parse.{digits_value}
 use Rattle.std.specs.Str.{all_ascii_digits}
 use Rattle.player.specs.declared.fault.TextWhy.{TextWhy}
@@ -14,10 +14,6 @@ plain_decimal (d ∷ e ∷ ds) = not (d == 48) && all_ascii_digits (d ∷ e ∷ 
 -- a number of 32 bits
 abbrev pub small : ℕ → Result ℕ TextWhy
 small n = cond (nat_lt n (2 ^ 32)) (Ok n) (Err TooLarge)
-
--- a number after one more digit; of one that is too large it is known only that it is
-abbrev pub with_digit : ℕ → ℕ → ℕ
-with_digit n d = min n (2 ^ 32) * 10 + (d - 48)
 
 -- the number that a part of a line writes, or why it writes none
 abbrev pub field_of : List ℕ → Result ℕ TextWhy

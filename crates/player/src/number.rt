@@ -2,7 +2,7 @@
 ghost use Rattle.std.specs.Prelude.{◌≡◌, true};
 ghost use Rattle.std.specs.Str.Parse.{digits_value};
 ghost use Rattle.std.specs.Str.{all_ascii_digits};
-ghost use Rattle.player.specs.Fields.{plain_decimal, small, field_of, with_digit};
+ghost use Rattle.player.specs.Fields.{plain_decimal, small, field_of};
 
 use crate::fault::TextWhy;
 
@@ -16,24 +16,23 @@ pub fn number(part: &[u8]) -> Result<u32, TextWhy>
     if !is_plain(part) {
         return Err(TextWhy::Field);
     }
-    value(part)
+    plain_value(part)
 }
 
-// The number that digits write. (The library's `parse` asks for text, and of each byte again whether it is a digit: a text of turns took half
-// as long again to read.)
-fn value(digits: &[u8]) -> Result<u32, TextWhy>
-    requires { all_ascii_digits digits.now ≡ true }
-    ensures { result ≡ small (digits_value 10 digits.now) }
+// The value of plain decimal. Each further digit only makes it larger, so it is known to be too large at once. (The library's `parse` asks for
+// text, and of each byte again whether it is a digit: a text of turns took half as long again to read. A `fold` goes to the end.)
+fn plain_value(part: &[u8]) -> Result<u32, TextWhy>
+    requires { all_ascii_digits part.now ≡ true }
+    ensures { result ≡ small (digits_value 10 part.now) }
 {
-    let n = digits.iter().copied().fold(0, with_digit);
-    u32::try_from(n).map_err(|_| TextWhy::TooLarge)
-}
-
-// A number after one more digit. One that is too large stays so, however much of it is cut.
-fn with_digit(n: u64, digit: u8) -> u64
-    ensures { result ≡ with_digit n digit }
-{
-    n.min(ABOVE) * 10 + digit.saturating_sub(b'0') as u64
+    let mut n: u64 = 0;
+    for b in part {
+        n = n * 10 + (*b - b'0') as u64;
+        if n >= ABOVE {
+            return Err(TextWhy::TooLarge);
+        }
+    }
+    Ok(n as u32)
 }
 
 // Whether the part is plain decimal: digits only, at least one, and not beginning with 0 unless it is 0 alone.
