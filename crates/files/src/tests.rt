@@ -17,6 +17,17 @@ fn a_missing_file_has_no_first_bytes(rt: HostRuntime) -> Result<(), Fail> {
     Ok(())
 }
 
+// This file never ends, and all its bytes are 0.
+#[test]
+fn as_many_bytes_of_a_file_are_read_as_asked_for(rt: HostRuntime) -> Result<(), Fail> {
+    let mut row = [7u8; 3];
+    assert_eq!(rt; read_start(&rt, "/dev/zero", &mut row)?, 3);
+    assert_eq!(rt; row, [0, 0, 0]);
+    let bytes = first_bytes(&rt, "/dev/zero", 3)?;
+    assert_eq!(rt; bytes.as_slice(), [0, 0, 0].as_slice());
+    Ok(())
+}
+
 #[test]
 fn a_source_is_read_until_it_ends_or_the_buffer_is_full(rt: HostRuntime) -> Result<(), Fail> {
     let mut source: &[u8] = &[1, 2, 3, 4, 5];
