@@ -2,7 +2,9 @@
 ghost use Rattle.std.specs.Prelude.{◌≤◌};
 
 use memory::{ByteMemory, Memory, WordMemory};
-use player::{Input, Lists, Played, RowList, listing, play_both_on, play_on, words_of};
+use player::{
+    Input, Lists, Played, RowList, listing, play_both, play_both_on, play_on, play_text, words_of,
+};
 use std::process::Abort;
 use std::test::*;
 use stores::{CentralBuffer, SnoopingStore, Turn, VersionStore};
@@ -244,4 +246,54 @@ fn a_refused_text_leaves_the_words_of_the_image(rt: HostRuntime) -> Result<(), F
 fn a_refused_image_leaves_all(rt: HostRuntime) -> Result<(), Fail> {
     let image = [1, 0, 0, 0, 5, 0, 0, 0, 1, 0, 0, 0, 8, 0, 0];
     leaves::<8>(&rt, &image, "start 0\n", 9, 15, (0, 0, 0))
+}
+
+// Lists that are lent one by one, by who has no `Lists` of them: the word of the memory is read, and two tasks are active.
+#[test]
+fn a_text_is_played_with_lists_lent_one_by_one(rt: HostRuntime) -> Result<(), Fail> {
+    let mut turn_row = [Turn::Start { p: 0 }; 8];
+    let mut answer_row = [Ok(0); 8];
+    let mut turns = RowList::new(&mut turn_row);
+    let mut answers = RowList::new(&mut answer_row);
+    let mut words = [8; 64];
+    let mut store = SnoopingStore::open(WordMemory::open(&mut words));
+    let text = "start 2\nload 2 5\nstart 0\n";
+    let told = play_text(&mut store, text.as_bytes(), &mut turns, &mut answers);
+    assert!(rt; told == Ok(2));
+    assert_eq!(rt; turns.len(), 3);
+    assert_eq!(rt; answers.items(), [Ok(0), Ok(8), Ok(1)].as_slice());
+    let _ = store.close();
+    Ok(())
+}
+
+#[test]
+fn both_stores_play_with_lists_lent_one_by_one(rt: HostRuntime) -> Result<(), Fail> {
+    let mut turn_row = [Turn::Start { p: 0 }; 8];
+    let mut answer_row = [Ok(0); 8];
+    let mut turn_row_again = [Turn::Start { p: 0 }; 8];
+    let mut answer_row_again = [Ok(0); 8];
+    let mut turns = RowList::new(&mut turn_row);
+    let mut snooped = RowList::new(&mut answer_row);
+    let mut again = RowList::new(&mut turn_row_again);
+    let mut buffered = RowList::new(&mut answer_row_again);
+    let image = [1, 0, 0, 0, 5, 0, 0, 0, 1, 0, 0, 0, 8, 0, 0, 0];
+    let text = "start 2\nload 2 5\nstart 0\n";
+    let mut words = [0; 64];
+    let mut bytes = [0; 256];
+    let ((_, snooping), (_, central)) = play_both(
+        WordMemory::open(&mut words),
+        ByteMemory::open(&mut bytes),
+        &image,
+        text.as_bytes(),
+        &mut turns,
+        &mut snooped,
+        &mut again,
+        &mut buffered,
+    );
+    assert!(rt; snooping == Ok(2));
+    assert!(rt; central == Ok(2));
+    assert_eq!(rt; (turns.len(), again.len()), (3, 3));
+    assert_eq!(rt; snooped.items(), [Ok(0), Ok(8), Ok(1)].as_slice());
+    assert_eq!(rt; buffered.items(), [Ok(0), Ok(8), Ok(1)].as_slice());
+    Ok(())
 }
