@@ -56,7 +56,8 @@ These were tried too. The prover passes them, since no contract can say more, an
 
 | Bug | Why no contract refuses it | What looks there |
 |---|---|---|
-| `first_bytes` takes half as many bytes of a file as are asked for | what a file holds no contract can say; it promises that there are no more | `tools/program_cases.py` has files of more than 32,768 bytes |
+| `first_bytes` takes half as many bytes of a file as are asked for | what a file holds no contract can say; it promises that there are no more | the test `as_many_bytes_of_a_file_are_read_as_asked_for` of `files` |
+| `listing_of_files` reads half as many bytes of a file | the same; it promises the listing of some image and some text | `tools/program_cases.py` has files of more than 32,768 bytes |
 | `read_start` or `first_bytes` gives an error where there is no file | whether a file is there no contract can say | the tests `a_missing_file_is_empty` and `a_missing_file_has_no_first_bytes` of `files` |
 | `read_start` and `first_bytes` take every error for a missing file | the same | the test `another_error_is_no_missing_file` of `files` |
 | `listing_of_files` reads the image from `turns.txt` | it promises the listing of some image and some text | the programs `play` and `central`, whose output the gate compares |
