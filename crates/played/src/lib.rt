@@ -5,7 +5,7 @@ ghost use Rattle.std.specs.Prelude.{◌≡◌, ℕ, ◌≤◌, List, length, IfO
 ghost use Rattle.player.specs.Capacity.{most_bytes};
 ghost use Rattle.player.specs.Listings.{listing_played};
 
-use files::read_start;
+use files::first_bytes;
 use player::{Input, MOST_BYTES, MOST_TURNS, RowList, listing, play_over, words_of};
 use std::alloc::{AllocError, Global};
 use std::fs::Files;
@@ -22,13 +22,8 @@ where
     requires { S.Below.Memory.sound memory }
     ensures { IfOk result (λ listing. (image : List ℕ) × (text : List ℕ) × (length image ≤ most_bytes) × (length text ≤ most_bytes) × (string_bytes listing ≡ listing_played (S.Below.Memory.words memory) image text)) }
 {
-    // Both rows are made here, so that a want of memory is told as everywhere else, and not as an error of a file.
-    let mut image = vec![in rt.alloc(); 0u8; MOST_BYTES]?;
-    let mut text = vec![in rt.alloc(); 0u8; MOST_BYTES]?;
-    let len = read_start(rt, "image.bin", image.as_mut_slice())?;
-    image.truncate(len);
-    let len = read_start(rt, "turns.txt", text.as_mut_slice())?;
-    text.truncate(len);
+    let image = first_bytes(rt, "image.bin", MOST_BYTES)?;
+    let text = first_bytes(rt, "turns.txt", MOST_BYTES)?;
     let input = Input {
         image: image.as_slice(),
         text: text.as_slice(),
